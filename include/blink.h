@@ -142,7 +142,9 @@ enum {
 /* The greatest number of operations that run at once. */
 #define BLINK_BATCH_LIMIT 8192
 
-/* A good number of `tries`, for a call that may come back before an operation has ended. */
+/* A good number of `tries`, for a call that may come back before an operation has ended. The functions that wait, at the end of this
+ * file, and those of blink.hpp and blink.py take so many steps in vain before they yield. A step in vain reads a word of memory, and a
+ * yield is a call of the kernel. */
 #define BLINK_TRIES 100
 
 /* The text of a code, in a few words without a full stop. A number that is no code has one too. */
@@ -664,54 +666,40 @@ static inline int blink_session_is_free(blink_session *session) {
     return blink_session_reserve(session, &reserve);
 }
 
+/* The body of each function below: a change of a free session, which begins until it has ended. */
+#define BLINK_WAITS(begins)                              \
+    int code = blink_session_is_free(session);           \
+    if (code != BLINK_DONE) return code;                 \
+    do code = begins;                                    \
+    while (blink_session_again(session, &code, answer)); \
+    return code
+
 static inline int blink_session_insert_wait(blink_session *session, uint64_t key, uint64_t pointer, blink_answer *answer) {
-    int code = blink_session_is_free(session);
-    if (code != BLINK_DONE) return code;
-    do code = blink_session_insert(session, key, pointer, BLINK_TRIES, answer);
-    while (blink_session_again(session, &code, answer));
-    return code;
+    BLINK_WAITS(blink_session_insert(session, key, pointer, BLINK_TRIES, answer));
 }
 
 static inline int blink_session_delete_wait(blink_session *session, uint64_t key, blink_answer *answer) {
-    int code = blink_session_is_free(session);
-    if (code != BLINK_DONE) return code;
-    do code = blink_session_delete(session, key, BLINK_TRIES, answer);
-    while (blink_session_again(session, &code, answer));
-    return code;
+    BLINK_WAITS(blink_session_delete(session, key, BLINK_TRIES, answer));
 }
 
 static inline int blink_session_replace_wait(blink_session *session, uint64_t key, uint64_t pointer, blink_answer *answer) {
-    int code = blink_session_is_free(session);
-    if (code != BLINK_DONE) return code;
-    do code = blink_session_replace(session, key, pointer, BLINK_TRIES, answer);
-    while (blink_session_again(session, &code, answer));
-    return code;
+    BLINK_WAITS(blink_session_replace(session, key, pointer, BLINK_TRIES, answer));
 }
 
 static inline int blink_session_exchange_wait(blink_session *session, uint64_t key, uint64_t expected, uint64_t pointer,
                                               blink_answer *answer) {
-    int code = blink_session_is_free(session);
-    if (code != BLINK_DONE) return code;
-    do code = blink_session_exchange(session, key, expected, pointer, BLINK_TRIES, answer);
-    while (blink_session_again(session, &code, answer));
-    return code;
+    BLINK_WAITS(blink_session_exchange(session, key, expected, pointer, BLINK_TRIES, answer));
 }
 
 static inline int blink_session_delete_exact_wait(blink_session *session, uint64_t key, uint64_t expected, blink_answer *answer) {
-    int code = blink_session_is_free(session);
-    if (code != BLINK_DONE) return code;
-    do code = blink_session_delete_exact(session, key, expected, BLINK_TRIES, answer);
-    while (blink_session_again(session, &code, answer));
-    return code;
+    BLINK_WAITS(blink_session_delete_exact(session, key, expected, BLINK_TRIES, answer));
 }
 
 static inline int blink_session_put_wait(blink_session *session, uint64_t key, uint64_t pointer, blink_answer *answer) {
-    int code = blink_session_is_free(session);
-    if (code != BLINK_DONE) return code;
-    do code = blink_session_put(session, key, pointer, BLINK_TRIES, answer);
-    while (blink_session_again(session, &code, answer));
-    return code;
+    BLINK_WAITS(blink_session_put(session, key, pointer, BLINK_TRIES, answer));
 }
+
+#undef BLINK_WAITS
 
 /* Ends the operation that is under way. Refused: as blink_pass_advance, but never with BLINK_PENDING. */
 static inline int blink_pass_finish(blink_pass *pass, blink_answer *answer) {

@@ -45,7 +45,7 @@ private:
 namespace detail {
 
 // How many steps in vain an operation takes before its thread yields.
-constexpr std::uint32_t tries = 100;
+constexpr std::uint32_t tries = BLINK_TRIES;
 
 inline void check(int code) {
     if (code != BLINK_DONE) throw Error(code);

@@ -46,7 +46,7 @@ Answer = namedtuple("Answer", "kind pointer")
 #: What a session has of its map's page numbers and rows.
 Reserve = namedtuple("Reserve", "pages unwritten free taken_out waiting")
 
-# How many steps in vain an operation takes before its thread yields.
+# How many steps in vain an operation takes before its thread yields: BLINK_TRIES of blink.h, which says what they cost.
 _TRIES = 100
 
 

@@ -1,5 +1,5 @@
 -- What the code of a call tells.
-use Rattle.std.proofs.Common.{◌≡◌, ℕ, Result, Ok, Err, IfErr, OnOk, sym, ◌∙◌}
+use Rattle.std.proofs.Common.{◌≡◌, ◌≢◌, ℕ, Result, Ok, Err, IfErr, OnErr, OnOk, sym, ◌∙◌}
 use Rattle.blink_owners.specs.Codes.{TellsWhy, code_of_outcome}
 
 -- code 0 tells what holds of a call that isn't refused, where no refusal has this code
@@ -13,3 +13,8 @@ pub told_why : {R : Type 0} (code : R → ℕ) (why : R → Type 0) (outcome : R
     → IfErr outcome why → TellsWhy code why given
 told_why code why (Ok done) given is holds refused = absurd (refused is)
 told_why code why (Err refusal) given is holds refused = (refusal, is, holds)
+
+-- then what a refused call leaves is so
+pub on_refusal : {R P : Type 0} (code : R → ℕ) (outcome : Result (Unit {0}) R) (given : ℕ) → given ≡ code_of_outcome code outcome → OnErr outcome P → given ≢ 0 → P
+on_refusal code (Ok done) given is holds refused = absurd (refused is)
+on_refusal code (Err refusal) given is holds refused = holds

@@ -14,3 +14,5 @@ pub mod SessionOwned
 pub mod SessionLending
 pub mod ReaderOwned
 pub mod ReaderLending
+-- what an export makes of a session or a pass by which an operation runs or begins
+pub mod Changing

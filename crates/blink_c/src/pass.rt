@@ -1,12 +1,14 @@
 //! The exports of a pass.
 ghost use Rattle.std.specs.Prelude.{◌≡◌, ◌≢◌};
 ghost use Rattle.blink_batch.specs.declared.Op.TheVariants.{Delete, DeleteExact, Exchange, Insert, Replace};
+ghost use Rattle.blink_map.specs.{IsUpdate};
 ghost use Rattle.blink_owners.specs.Codes.{TellsWhy};
-ghost use Rattle.blink_owners.specs.Passes.{Begins, Ends, Finds, Glances, Hands, IsAdvanceRefusal, IsBeginRefusal, IsFindRefusal, IsNotFree, IsOwn, IsTakeRefusal, IsTellRefusal, Scans, Takes, TellsHandFault, TellsOn, table_of};
-ghost use Rattle.blink_owners.specs.TableCodes.{code_of};
+ghost use Rattle.blink_owners.specs.Passes.{Ends, Finds, Glances, Hands, IsAdvanceRefusal, IsFindRefusal, IsNotFree, IsOwn, IsTakeRefusal, IsTellRefusal, Scans, Takes, TellsHandFault, TellsOn, table_of};
+ghost use Rattle.blink_owners.specs.TableCodes.{code_of, code_of_not_yours};
+ghost use Rattle.blink_c.specs.Changing.{BeginsChange};
 
 use crate::pass_handle::PassHandle;
-use blink_batch::Entry;
+use blink_batch::{Entry, Op};
 use blink_live::HandError;
 use blink_owners::raw::{RawAnswer, RawScanned, RawTaken};
 use blink_owners::refusal::{Code, DONE};
@@ -118,7 +120,7 @@ pub extern "C" fn blink_pass_transfer(
         → TellsHandFault from.old.value to.old.value keys.now result bad_key.new }
     ensures unchanged { result ≢ 0
         → (from.new.value ≡ from.old.value) × (to.new.value ≡ to.old.value) }
-    ensures no_key { result ≢ 58 → bad_key.new ≡ bad_key.old }
+    ensures no_key { result ≢ code_of_not_yours → bad_key.new ≡ bad_key.old }
 {
     match from.get().hand(to.get(), keys) {
         Ok(()) => DONE,
@@ -134,37 +136,28 @@ pub extern "C" fn blink_pass_transfer(
 /// Begins an insertion of a key of the pass.
 #[unsafe(no_mangle)]
 pub extern "C" fn blink_pass_begin_insert(pass: &mut PassHandle, key: u64, pointer: u64) -> Code
-    requires its_own { IsOwn pass.old.value }
-    ensures its_own { IsOwn pass.new.value }
-    ensures begun { result ≡ 0 → Begins (Insert key pointer) pass.old.value pass.new.value }
-    ensures refused { TellsWhy code_of (IsBeginRefusal (Insert key pointer) pass.old.value.held) result }
-    ensures unchanged { result ≢ 0 → pass.new.value ≡ pass.old.value }
+    requires { IsOwn pass.old.value }
+    ensures { BeginsChange (Insert key pointer) pass.old.value pass.new.value result }
 {
-    code_of(&pass.get().begin_insert(key, pointer))
+    begin(pass, Op::Insert(key, pointer))
 }
 
 /// Begins a deletion of a key of the pass.
 #[unsafe(no_mangle)]
 pub extern "C" fn blink_pass_begin_delete(pass: &mut PassHandle, key: u64) -> Code
-    requires its_own { IsOwn pass.old.value }
-    ensures its_own { IsOwn pass.new.value }
-    ensures begun { result ≡ 0 → Begins (Delete key) pass.old.value pass.new.value }
-    ensures refused { TellsWhy code_of (IsBeginRefusal (Delete key) pass.old.value.held) result }
-    ensures unchanged { result ≢ 0 → pass.new.value ≡ pass.old.value }
+    requires { IsOwn pass.old.value }
+    ensures { BeginsChange (Delete key) pass.old.value pass.new.value result }
 {
-    code_of(&pass.get().begin_delete(key))
+    begin(pass, Op::Delete(key))
 }
 
 /// Begins a replacement of a key of the pass.
 #[unsafe(no_mangle)]
 pub extern "C" fn blink_pass_begin_replace(pass: &mut PassHandle, key: u64, pointer: u64) -> Code
-    requires its_own { IsOwn pass.old.value }
-    ensures its_own { IsOwn pass.new.value }
-    ensures begun { result ≡ 0 → Begins (Replace key pointer) pass.old.value pass.new.value }
-    ensures refused { TellsWhy code_of (IsBeginRefusal (Replace key pointer) pass.old.value.held) result }
-    ensures unchanged { result ≢ 0 → pass.new.value ≡ pass.old.value }
+    requires { IsOwn pass.old.value }
+    ensures { BeginsChange (Replace key pointer) pass.old.value pass.new.value result }
 {
-    code_of(&pass.get().begin_replace(key, pointer))
+    begin(pass, Op::Replace(key, pointer))
 }
 
 /// Begins an exchange of a key of the pass.
@@ -175,15 +168,10 @@ pub extern "C" fn blink_pass_begin_exchange(
     expected: u64,
     pointer: u64,
 ) -> Code
-    requires its_own { IsOwn pass.old.value }
-    ensures its_own { IsOwn pass.new.value }
-    ensures begun { result ≡ 0
-        → Begins (Exchange key expected pointer) pass.old.value pass.new.value }
-    ensures refused { TellsWhy code_of
-        (IsBeginRefusal (Exchange key expected pointer) pass.old.value.held) result }
-    ensures unchanged { result ≢ 0 → pass.new.value ≡ pass.old.value }
+    requires { IsOwn pass.old.value }
+    ensures { BeginsChange (Exchange key expected pointer) pass.old.value pass.new.value result }
 {
-    code_of(&pass.get().begin_exchange(key, expected, pointer))
+    begin(pass, Op::Exchange(key, expected, pointer))
 }
 
 /// Begins a deletion of a key of the pass, if its pointer is the expected one.
@@ -193,14 +181,19 @@ pub extern "C" fn blink_pass_begin_delete_exact(
     key: u64,
     expected: u64,
 ) -> Code
-    requires its_own { IsOwn pass.old.value }
-    ensures its_own { IsOwn pass.new.value }
-    ensures begun { result ≡ 0 → Begins (DeleteExact key expected) pass.old.value pass.new.value }
-    ensures refused { TellsWhy code_of
-        (IsBeginRefusal (DeleteExact key expected) pass.old.value.held) result }
-    ensures unchanged { result ≢ 0 → pass.new.value ≡ pass.old.value }
+    requires { IsOwn pass.old.value }
+    ensures { BeginsChange (DeleteExact key expected) pass.old.value pass.new.value result }
 {
-    code_of(&pass.get().begin_delete_exact(key, expected))
+    begin(pass, Op::DeleteExact(key, expected))
+}
+
+// Begins an operation that changes the tree.
+fn begin(pass: &mut PassHandle, op: Op) -> Code
+    requires its_own { IsOwn pass.old.value }
+    requires updates { IsUpdate op }
+    ensures { BeginsChange op pass.old.value pass.new.value result }
+{
+    code_of(&pass.get().begin(op))
 }
 
 /// Takes the next steps of the operation under way. It is refused with `UnderWay` after so many steps in vain; the next call goes

@@ -1,12 +1,16 @@
 //! The exports of a session.
 ghost use Rattle.std.specs.Prelude.{◌≡◌, ◌≢◌};
+ghost use Rattle.blink_batch.specs.{FitsWords};
 ghost use Rattle.blink_batch.specs.declared.Op.TheVariants.{Delete, DeleteExact, Exchange, Insert, Replace};
+ghost use Rattle.blink_map.specs.{IsUpdate};
 ghost use Rattle.blink_owners.specs.Codes.{TellsWhy};
 ghost use Rattle.blink_owners.specs.MapCodes.{code_of};
-ghost use Rattle.blink_owners.specs.Sessions.{Answers, EndsFrom, Finds, IsAdvanceRefusal, IsChangeRefusal, IsNotFree, IsOwnSession, IsPutRefusal, IsTakeRefusal, IsTellRefusal, Puts, Scans, Takes, TellsOn, TellsStock, in_map};
+ghost use Rattle.blink_owners.specs.Sessions.{EndsFrom, Finds, IsAdvanceRefusal, IsNotFree, IsOwnSession, IsPutRefusal, IsTakeRefusal, IsTellRefusal, Puts, Scans, Takes, TellsOn, TellsStock, in_map};
+ghost use Rattle.blink_c.specs.Changing.{ChangesMap};
 
 use crate::session_handle::SessionHandle;
 use blink_batch::{Entry, Op};
+use blink_map::FREE_TRIES;
 use blink_owners::map_refusal::code_of;
 use blink_owners::raw::{RawAnswer, RawScanned, RawStock, RawTaken};
 use blink_owners::refusal::Code;
@@ -85,19 +89,10 @@ pub extern "C" fn blink_session_insert(
     tries: u32,
     answer: &mut RawAnswer,
 ) -> Code
-    requires its_own { IsOwnSession session.old.value }
-    ensures its_own { IsOwnSession session.new.value }
-    ensures answered { result ≡ 0
-        → Answers (Insert key pointer) session.old.value session.new.value answer.new }
-    ensures refused { TellsWhy code_of
-        (IsChangeRefusal (Insert key pointer) session.old.value session.new.value) result }
-    ensures unchanged { result ≢ 0 → answer.new ≡ answer.old }
+    requires { IsOwnSession session.old.value }
+    ensures { ChangesMap (Insert key pointer) session.old.value session.new.value answer.old answer.new result }
 {
-    code_of(
-        &session
-            .get()
-            .change(Op::Insert(key, pointer), tries, answer),
-    )
+    change(session, Op::Insert(key, pointer), tries, answer)
 }
 
 /// Removes a key. It may be under way then as an insertion.
@@ -108,15 +103,10 @@ pub extern "C" fn blink_session_delete(
     tries: u32,
     answer: &mut RawAnswer,
 ) -> Code
-    requires its_own { IsOwnSession session.old.value }
-    ensures its_own { IsOwnSession session.new.value }
-    ensures answered { result ≡ 0
-        → Answers (Delete key) session.old.value session.new.value answer.new }
-    ensures refused { TellsWhy code_of
-        (IsChangeRefusal (Delete key) session.old.value session.new.value) result }
-    ensures unchanged { result ≢ 0 → answer.new ≡ answer.old }
+    requires { IsOwnSession session.old.value }
+    ensures { ChangesMap (Delete key) session.old.value session.new.value answer.old answer.new result }
 {
-    code_of(&session.get().change(Op::Delete(key), tries, answer))
+    change(session, Op::Delete(key), tries, answer)
 }
 
 /// Replaces a key's pointer. It may be under way then as an insertion.
@@ -128,19 +118,10 @@ pub extern "C" fn blink_session_replace(
     tries: u32,
     answer: &mut RawAnswer,
 ) -> Code
-    requires its_own { IsOwnSession session.old.value }
-    ensures its_own { IsOwnSession session.new.value }
-    ensures answered { result ≡ 0
-        → Answers (Replace key pointer) session.old.value session.new.value answer.new }
-    ensures refused { TellsWhy code_of
-        (IsChangeRefusal (Replace key pointer) session.old.value session.new.value) result }
-    ensures unchanged { result ≢ 0 → answer.new ≡ answer.old }
+    requires { IsOwnSession session.old.value }
+    ensures { ChangesMap (Replace key pointer) session.old.value session.new.value answer.old answer.new result }
 {
-    code_of(
-        &session
-            .get()
-            .change(Op::Replace(key, pointer), tries, answer),
-    )
+    change(session, Op::Replace(key, pointer), tries, answer)
 }
 
 /// Replaces a key's pointer, if it is the expected one. It may be under way then as an insertion.
@@ -153,19 +134,10 @@ pub extern "C" fn blink_session_exchange(
     tries: u32,
     answer: &mut RawAnswer,
 ) -> Code
-    requires its_own { IsOwnSession session.old.value }
-    ensures its_own { IsOwnSession session.new.value }
-    ensures answered { result ≡ 0
-        → Answers (Exchange key expected pointer) session.old.value session.new.value answer.new }
-    ensures refused { TellsWhy code_of
-        (IsChangeRefusal (Exchange key expected pointer) session.old.value session.new.value) result }
-    ensures unchanged { result ≢ 0 → answer.new ≡ answer.old }
+    requires { IsOwnSession session.old.value }
+    ensures { ChangesMap (Exchange key expected pointer) session.old.value session.new.value answer.old answer.new result }
 {
-    code_of(
-        &session
-            .get()
-            .change(Op::Exchange(key, expected, pointer), tries, answer),
-    )
+    change(session, Op::Exchange(key, expected, pointer), tries, answer)
 }
 
 /// Removes a key with its pointer, if that is the expected one. It may be under way then as an insertion.
@@ -177,19 +149,20 @@ pub extern "C" fn blink_session_delete_exact(
     tries: u32,
     answer: &mut RawAnswer,
 ) -> Code
-    requires its_own { IsOwnSession session.old.value }
-    ensures its_own { IsOwnSession session.new.value }
-    ensures answered { result ≡ 0
-        → Answers (DeleteExact key expected) session.old.value session.new.value answer.new }
-    ensures refused { TellsWhy code_of
-        (IsChangeRefusal (DeleteExact key expected) session.old.value session.new.value) result }
-    ensures unchanged { result ≢ 0 → answer.new ≡ answer.old }
+    requires { IsOwnSession session.old.value }
+    ensures { ChangesMap (DeleteExact key expected) session.old.value session.new.value answer.old answer.new result }
 {
-    code_of(
-        &session
-            .get()
-            .change(Op::DeleteExact(key, expected), tries, answer),
-    )
+    change(session, Op::DeleteExact(key, expected), tries, answer)
+}
+
+// Runs an operation that changes the map, or begins it.
+fn change(session: &mut SessionHandle, op: Op, tries: u32, answer: &mut RawAnswer) -> Code
+    requires its_own { IsOwnSession session.old.value }
+    requires updates { IsUpdate op }
+    requires fits { FitsWords op }
+    ensures { ChangesMap op session.old.value session.new.value answer.old answer.new result }
+{
+    code_of(&session.get().change(op, tries, answer))
 }
 
 /// Maps a key to a pointer, whether the key is there or not. It may be under way then as an insertion, also where the key turned
@@ -261,14 +234,11 @@ pub extern "C" fn blink_session_reserve(session: &mut SessionHandle, stock: &mut
     code_of(&session.get().stock(stock))
 }
 
-// How often an operation that is freed tries to go on.
-const TRIES: u32 = 1000;
-
 /// Frees the handle. A free session rests at its place again, which can be taken. An operation or a put under way is driven to its end
 /// before; a put whose other half lacks room is not made. If it still waits after 1,000 tries, its place is lost.
 #[unsafe(no_mangle)]
 pub extern "C" fn blink_session_free(session: SessionHandle)
     requires its_own { IsOwnSession session.value }
 {
-    Box::into_inner(session.into_box()).free(TRIES);
+    Box::into_inner(session.into_box()).free(FREE_TRIES);
 }

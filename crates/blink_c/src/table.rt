@@ -4,7 +4,7 @@ ghost use Rattle.blink_index.specs.{map_of};
 ghost use Rattle.blink_live.specs.{IsMerge, IsNumberedInOrder, IsTooLarge, counts_of, fan_of, passes_out};
 ghost use Rattle.blink_owners.specs.Codes.{TellsWhy};
 ghost use Rattle.blink_owners.specs.Passes.{IsOwn, table_of};
-ghost use Rattle.blink_owners.specs.TableCodes.{code_of};
+ghost use Rattle.blink_owners.specs.TableCodes.{code_of, code_of_taken};
 ghost use Rattle.blink_owners.specs.Tables.{DealsTo, IsNewTable, IsOwnTable, IsReturnRefusal, TakesBack, TellsDealFault, table_in};
 
 use crate::index_handle::IndexHandle;
@@ -82,7 +82,7 @@ pub extern "C" fn blink_table_deal(
         (λ pass. IsOwn pass × DealsTo keys.now inserts deletes table.old.value table.new.value pass) }
     ensures refused { result ≢ 0
         → TellsDealFault table.old.value keys.now inserts deletes result taken.new }
-    ensures no_key { result ≢ 51 → taken.new ≡ taken.old }
+    ensures no_key { result ≢ code_of_taken → taken.new ≡ taken.old }
     ensures unchanged { result ≢ 0
         → (table.new.value ≡ table.old.value) × (out.new.value ≡ None) }
 {

@@ -1,11 +1,10 @@
--- What an insertion or a replacement that is answered so has made of its session.
-use Rattle.std.proofs.Common.{◌≡◌, ◌≢◌, ℕ, ◌+◌, ◌≤◌, Option, Some, None, List, [], ◌∷◌, ◌++◌, refl, sym, ap, ◌∙◌, subst, append-nil, inl, inr, arith}
-use Rattle.std.specs.Prelude.{IfOk, OnErr, Result, Ok, Err}
+-- What an operation that is answered so, or refused, has made of its session.
+use Rattle.std.proofs.Common.{◌≡◌, ◌≢◌, ℕ, ◌+◌, ◌≤◌, Option, Some, None, List, [], ◌∷◌, ◌++◌, refl, sym, ap, ◌∙◌, subst, append-nil}
 use mathlib.Core.List.{IsPrefix}
 use Rattle.blink_batch.specs.declared.Answer.{Answer}
 use Rattle.blink_batch.specs.declared.Answer.TheVariants.{Exists, Inserted, Replaced}
 use Rattle.blink_batch.specs.declared.Op.{Op}
-use Rattle.blink_batch.specs.declared.Op.TheVariants.{Insert, Replace}
+use Rattle.blink_batch.specs.declared.Op.TheVariants.{Delete, DeleteExact, Exchange, Find, Insert, Replace}
 use Rattle.blink_batch.specs.{answer_at, key_of, pointer_of}
 use Rattle.blink_live.specs.declared.view.Change.{Change}
 use Rattle.blink_live.specs.Changes.{after, changes_made}
@@ -15,12 +14,10 @@ use Rattle.blink_live.specs.Views.{pages_of, rows_of}
 use Rattle.blink_live.specs.declared.shelf.Shelf.{Shelf}
 use Rattle.blink_rows.specs.declared.span.Span.{Span}
 use Rattle.blink_live.proofs.Offered.{prefix_of_prefix}
-use Rattle.blink_map.specs.declared.error.Full.{Full}
 use Rattle.blink_map.specs.declared.map.Map.{Map}
 use Rattle.blink_map.specs.declared.map.Session.{Session}
-use Rattle.blink_map.specs.declared.member.Member.{Member}
-use Rattle.blink_map.specs.Putting.{CannotPut, HasTried, IsPut, IsShortOfRoom, IsTried, WasAbsent, change_to}
-use Rattle.blink_map.specs.Sessions.{HasRoom, IsAnswered, IsSameBesideRoom, IsSameBesideSeen, IsSameMember, IsSessionOf, LacksRoom, LacksRoomInAll, made_by, opening_of, place_of, seen_by}
+use Rattle.blink_map.specs.Putting.{HasTried, IsPut, IsUnchangedBy, LacksKeyOf, WasAbsent, change_to}
+use Rattle.blink_map.specs.Sessions.{IsAnswered, IsSameBesideRoom, IsSameBesideSeen, IsSameMember, LacksRoom, LacksRoomInAll, made_by, opening_of, place_of, seen_by}
 
 -- ---- by the state of the key before
 
@@ -91,11 +88,6 @@ tried_in_vain old new same = record {
 
 -- ---- two of them
 
-pub still_its : (map : Map) (old new : Session) → IsSessionOf map old → HasTried old new → IsSessionOf map new
-still_its map old new its tried_so = record {
-  member = record { same_table = tried_so.same_member.same_table ∙ its.member.same_table; same_plan = tried_so.same_member.same_plan ∙ its.member.same_plan };
-}
-
 module _ (old middle new : Session) (first : HasTried old middle) where
   pub tried_twice : HasTried middle new → HasTried old new
   tried_twice second = record {
@@ -123,23 +115,7 @@ module _ (old middle new : Session) (first : HasTried old middle) where
     goes_on = was.goes_on;
   }
 
-  pub cannot_then : (map : Map) (key pointer : ℕ) → CannotPut map key pointer middle new → CannotPut map key pointer old new
-  cannot_then map key pointer (inl row) = inl row
-  cannot_then map key pointer (inr absent) = inr (absent_then map key absent.0, absent.1)
-
--- a try after others is one from the beginning on
-pub tried_from_first : (map : Map) (key pointer : ℕ) (old middle new : Session) (was : Result (Option ℕ) Full) → HasTried old middle → IsTried map key pointer middle new (Some was)
-    → IfOk was (IsPut map key pointer old new) × OnErr was (HasTried old new) × OnErr was (IsShortOfRoom key pointer new) × OnErr was (LacksRoomInAll (Insert key pointer) new) × OnErr was (CannotPut map key pointer old new)
-tried_from_first map key pointer old middle new (Ok kept) first is = (put_then old middle new first map key pointer kept is, tt, tt, tt, tt)
-tried_from_first map key pointer old middle new (Err full) first is = (tt, tried_twice old middle new first is.0, is.1, is.2, cannot_then old middle new first map key pointer is.3)
-
--- the same of a try that may be in vain
-pub tried_then : (map : Map) (key pointer : ℕ) (old middle new : Session) (outcome : Option (Result (Option ℕ) Full)) → HasTried old middle → IsTried map key pointer middle new outcome → IsTried map key pointer old new outcome
-tried_then map key pointer old middle new None first is = tried_twice old middle new first is
-tried_then map key pointer old middle new (Some (Ok was)) first is = put_then old middle new first map key pointer was is
-tried_then map key pointer old middle new (Some (Err full)) first is = (tried_twice old middle new first is.0, is.1, is.2, cannot_then old middle new first map key pointer is.3)
-
--- ---- an insertion for which a session lacks room, where it has looked the key up
+-- ---- a refused operation; an insertion for which a session lacks room has looked its key up
 
 module _ (map : Map) (old middle new : Session) (room : IsSameBesideRoom old middle) (looked : IsSameBesideSeen middle new) (key pointer : ℕ) where
   saw_all : IsPrefix (seen_by old) (seen_by new)
@@ -169,6 +145,23 @@ module _ (map : Map) (old middle new : Session) (room : IsSameBesideRoom old mid
 
   pub found_absent : None ≡ after (pointer_of (opening_of map)) (seen_by new) key → WasAbsent map key old new
   found_absent found = record { before = seen_by new; saw = saw_all; absent = sym found; goes_on = ([], append-nil (seen_by new)) }
+
+-- any other has changed nothing
+pub is_unchanged : (map : Map) (op : Op) (old new : Session) → ((key pointer : ℕ) → op ≢ Insert key pointer) → IsSameBesideRoom old new → LacksKeyOf map op old new × IsUnchangedBy op old new
+is_unchanged map (Insert key pointer) old new other same = absurd (other key pointer refl)
+is_unchanged map (Find key) old new other same = (tt, same)
+is_unchanged map (Delete key) old new other same = (tt, same)
+is_unchanged map (Replace key pointer) old new other same = (tt, same)
+is_unchanged map (Exchange key expected pointer) old new other same = (tt, same)
+is_unchanged map (DeleteExact key expected) old new other same = (tt, same)
+
+pub tried_by : (op : Op) (old new : Session) → IsUnchangedBy op old new → HasTried old new
+tried_by (Insert key pointer) old new tried_so = tried_so
+tried_by (Find key) old new same = tried_in_vain old new same
+tried_by (Delete key) old new same = tried_in_vain old new same
+tried_by (Replace key pointer) old new same = tried_in_vain old new same
+tried_by (Exchange key expected pointer) old new same = tried_in_vain old new same
+tried_by (DeleteExact key expected) old new same = tried_in_vain old new same
 
 -- a session that has looked a key up has the room that it had
 pub still_lacks : (op : Op) (old middle new : Session) → IsSameBesideSeen middle new → LacksRoom op old middle → LacksRoom op old new

@@ -1,5 +1,7 @@
 -- What a caller of `blink_map` reads, in this order; then the files themselves.
 
+-- the operations that change a map
+pub use Rattle.blink_machine.specs.{IsUpdate}
 -- a map and its sessions
 pub use Rattle.blink_map.specs.Sessions.{AnswersAsSeen, HasRoom, IsAnswered, IsOpenedWith, IsTooLarge, IsSameBesideRoom, IsSameBesideSeen, IsSameSession, IsSessionOf, LacksRoom, LacksRoomInAll, made_by, opening_of, place_of, places_of, seen_by}
 -- how a map opens: each session is the first of its place
@@ -17,8 +19,8 @@ pub use Rattle.blink_map.specs.Rebuilding.{AreEntriesOf, IsRebuildFault}
 pub use Rattle.blink_map.specs.Pendings.{GoesOn, HasBegun, IsPendingOf, op_of, session_of}
 -- an operation that hasn't ended at once
 pub use Rattle.blink_map.specs.Starting.{HasStopped}
--- an entry that is put
-pub use Rattle.blink_map.specs.Putting.{CannotPut, HasTried, IsPut, WasAbsent, change_to}
+-- what a refused operation makes of its session, and an entry that is put
+pub use Rattle.blink_map.specs.Putting.{HasTried, IsPut, IsUnchangedBy, LacksKeyOf, WasAbsent, change_to}
 -- what a session has of rows and page numbers
 pub use Rattle.blink_map.specs.Stocks.{stock_of}
 -- the code of each refusal

@@ -1,14 +1,14 @@
--- What a call makes of a session that inserts or replaces.
-use Rattle.std.specs.Prelude.{◌≡◌, ◌⊎◌, ℕ, Option, Some, None, Result, Ok, Err, List, [], ◌∷◌, ◌++◌}
+-- What a refused operation makes of its session, and what a put does.
+use Rattle.std.specs.Prelude.{◌≡◌, ℕ, Option, Some, None, List, [], ◌∷◌, ◌++◌, ⊤}
 use mathlib.Core.List.{IsPrefix}
-use Rattle.blink_batch.specs.declared.Op.TheVariants.{Insert, Replace}
+use Rattle.blink_batch.specs.declared.Op.{Op}
+use Rattle.blink_batch.specs.declared.Op.TheVariants.{Insert}
 use Rattle.blink_batch.specs.{pointer_of}
 use Rattle.blink_live.specs.declared.view.Change.{Change}
 use Rattle.blink_live.specs.Changes.{after}
-use Rattle.blink_map.specs.declared.error.Full.{Full}
 use Rattle.blink_map.specs.declared.map.Map.{Map}
 use Rattle.blink_map.specs.declared.map.Session.{Session}
-use Rattle.blink_map.specs.Sessions.{HasRoom, IsSameMember, LacksRoomInAll, made_by, opening_of, place_of, seen_by}
+use Rattle.blink_map.specs.Sessions.{IsSameBesideRoom, IsSameMember, made_by, opening_of, place_of, seen_by}
 
 -- the session has made no change, and may have seen more
 pub record HasTried (old new : Session) : Type 0 where
@@ -24,9 +24,16 @@ pub record WasAbsent (map : Map) (key : ℕ) (old new : Session) : Type 0 where
   pub absent : after (pointer_of (opening_of map)) before key ≡ None
   pub goes_on : IsPrefix before (seen_by new)
 
--- the session hasn't the room that the insertion of an entry may need
-abbrev pub IsShortOfRoom : ℕ → ℕ → Session → Type 0
-IsShortOfRoom key pointer session = ¬ HasRoom (Insert key pointer) session.member
+-- what a refused operation has made of its session: it is as it was, but for its rows and page numbers. An insertion has looked its key
+-- up, so its session may have seen more
+abbrev pub IsUnchangedBy : Op → Session → Session → Type 0
+IsUnchangedBy (Insert key pointer) old new = HasTried old new
+IsUnchangedBy op old new = IsSameBesideRoom old new
+
+-- where the operation is an insertion, its key was absent
+abbrev pub LacksKeyOf : Map → Op → Session → Session → Type 0
+LacksKeyOf map (Insert key pointer) old new = WasAbsent map key old new
+LacksKeyOf map op old new = ⊤
 
 -- a change at a place by which the key has the pointer
 abbrev pub change_to : ℕ → ℕ → ℕ → Change
@@ -41,14 +48,3 @@ pub record IsPut (map : Map) (key pointer : ℕ) (old new : Session) (was : Opti
   pub goes_on : IsPrefix (before ++ change_to (place_of old) key pointer ∷ []) (seen_by new)
   pub made : made_by new ≡ made_by old ++ change_to (place_of old) key pointer ∷ []
   pub same_member : IsSameMember old.member new.member
-
--- why a put is refused: the session has no row for a replacement; or the key was absent, and the session lacks what an insertion may
--- need
-abbrev pub CannotPut : Map → ℕ → ℕ → Session → Session → Type 0
-CannotPut map key pointer old new = LacksRoomInAll (Replace key pointer) new ⊎ (WasAbsent map key old new × LacksRoomInAll (Insert key pointer) new)
-
--- the session has put the pointer; or it has changed nothing, and was refused or is to try again
-abbrev pub IsTried : Map → ℕ → ℕ → Session → Session → Option (Result (Option ℕ) Full) → Type 0
-IsTried map key pointer old new None = HasTried old new
-IsTried map key pointer old new (Some (Err full)) = HasTried old new × IsShortOfRoom key pointer new × LacksRoomInAll (Insert key pointer) new × CannotPut map key pointer old new
-IsTried map key pointer old new (Some (Ok was)) = IsPut map key pointer old new was

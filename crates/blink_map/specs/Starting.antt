@@ -5,9 +5,10 @@ use Rattle.blink_map.specs.declared.map.Session.{Session}
 use Rattle.blink_map.specs.declared.map.Stopped.{Stopped}
 use Rattle.blink_map.specs.declared.map.Stopped.TheVariants.{Full, Waits}
 use Rattle.blink_map.specs.Pendings.{HasBegun}
-use Rattle.blink_map.specs.Sessions.{IsSameBesideRoom, LacksRoom}
+use Rattle.blink_map.specs.Putting.{IsUnchangedBy, LacksKeyOf}
+use Rattle.blink_map.specs.Sessions.{LacksRoom}
 
--- it has begun, and waits; or the session lacked room for it, and is as it was beside
+-- it has begun, and waits; or the session lacked room for it, and has changed nothing. Where it is an insertion, its key was absent
 abbrev pub HasStopped : Map → Op → Session → Stopped → Type 0
 HasStopped map op session (Waits pending) = HasBegun map op session pending
-HasStopped map op session (Full then) = LacksRoom op session then × IsSameBesideRoom session then
+HasStopped map op session (Full then) = LacksRoom op session then × LacksKeyOf map op session then × IsUnchangedBy op session then

@@ -4,7 +4,6 @@ ghost use Rattle.std.specs.Prelude.{◌≡◌, Some, IfErr, IfOk};
 ghost use Rattle.blink_batch.specs.{FitsWords};
 ghost use Rattle.blink_batch.specs.declared.Answer.{Answer};
 ghost use Rattle.blink_batch.specs.declared.Op.{Op};
-ghost use Rattle.blink_batch.specs.declared.Op.TheVariants.{Delete, DeleteExact, Exchange, Insert, Replace};
 ghost use Rattle.blink_machine.specs.{IsUpdate};
 ghost use Rattle.blink_machine.specs.declared.machine.State.TheVariants.{Ended};
 ghost use Rattle.blink_live.specs.Pendings.{IsWaiting};
@@ -14,11 +13,12 @@ ghost use Rattle.blink_map.specs.Pendings.{GoesOn, HasBegun, IsPendingOf, op_of,
 ghost use Rattle.blink_map.specs.Places.{IsMemberOf};
 ghost use Rattle.blink_map.specs.Sessions.{HasRoom, IsAnswered, IsSameBesideRoom, IsSessionOf, LacksRoom};
 
-use crate::change::{BATCH_ROWS, come_back, room_of};
+use crate::change::{come_back, room_of};
 use crate::error::Full;
 use crate::map::{Map, Pending, Session};
 use crate::member::{Member, REST, UnderWay, next_mark};
 use crate::steps::mark_place;
+use crate::waiting::BATCH_ROWS;
 use blink_batch::{Answer, Op};
 use blink_live::Live;
 use blink_machine::Machine;
@@ -26,101 +26,34 @@ use blink_rows::Span;
 use std::snapshot::Snapshot;
 
 impl Map {
-    /// Begins an insertion: what `insert` does, with no wait. The call reads the tree down to the key's leaf. It takes no memory,
-    /// waits for nobody, and returns. The insertion goes on by `advance`.
+    /// Begins an operation that changes the map: what `change` does, with no wait. The call reads the tree down to the key's leaf. It takes
+    /// no memory, waits for nobody, and returns. The operation goes on by `advance`.
     ///
-    /// The call refuses as `insert` does, and gives the session back. But it looks no key up before, and it doesn't wait: it refuses
-    /// also where the key is there, and where the session's rows are on their way back, or its shelf is full. Then a later call may
-    /// be let through.
-    pub fn begin_insert(
-        &self,
-        session: Session,
-        key: u64,
-        pointer: u64,
-    ) -> Result<Pending, (Session, Full)>
+    /// The call refuses as `change` does, and gives the session back. But an insertion looks no key up before, and the call doesn't wait: it
+    /// refuses also where the key is there, and where the session's rows are on their way back, or its shelf is full. Then a later call
+    /// may be let through.
+    pub fn begin(&self, session: Session, op: Op) -> Result<Pending, (Session, Full)>
         requires its_own { IsSessionOf self.now session }
-        ensures begun { IfOk result (HasBegun self.now (Insert key pointer) session) }
-        ensures full { IfErr result (λ refused. LacksRoom (Insert key pointer) session refused.0) }
+        requires updates { IsUpdate op }
+        requires fits { FitsWords op }
+        ensures begun { IfOk result (HasBegun self.now op session) }
+        ensures full { IfErr result (λ refused. LacksRoom op session refused.0) }
         ensures unchanged { IfErr result (λ refused. IsSameBesideRoom session refused.0) }
     {
-        self.begin(session, Op::Insert(key, pointer))
-    }
-
-    /// Begins a deletion: what `delete` does, with no wait. The call reads the tree down to the key's leaf. It takes no memory,
-    /// waits for nobody, and returns. The deletion goes on by `advance`.
-    ///
-    /// The call refuses as `delete` does, and gives the session back; also where the session's rows are on their way back.
-    pub fn begin_delete(&self, session: Session, key: u64) -> Result<Pending, (Session, Full)>
-        requires its_own { IsSessionOf self.now session }
-        ensures begun { IfOk result (HasBegun self.now (Delete key) session) }
-        ensures full { IfErr result (λ refused. LacksRoom (Delete key) session refused.0) }
-        ensures unchanged { IfErr result (λ refused. IsSameBesideRoom session refused.0) }
-    {
-        self.begin(session, Op::Delete(key))
-    }
-
-    /// Begins a replacement: what `replace` does, with no wait. The call reads the tree down to the key's leaf. It takes no
-    /// memory, waits for nobody, and returns. The replacement goes on by `advance`.
-    ///
-    /// The call refuses as `replace` does, and gives the session back; also where the session's rows are on their way back.
-    pub fn begin_replace(
-        &self,
-        session: Session,
-        key: u64,
-        pointer: u64,
-    ) -> Result<Pending, (Session, Full)>
-        requires its_own { IsSessionOf self.now session }
-        ensures begun { IfOk result (HasBegun self.now (Replace key pointer) session) }
-        ensures full { IfErr result (λ refused. LacksRoom (Replace key pointer) session refused.0) }
-        ensures unchanged { IfErr result (λ refused. IsSameBesideRoom session refused.0) }
-    {
-        self.begin(session, Op::Replace(key, pointer))
-    }
-
-    /// Begins an exchange: what `exchange` does, with no wait. The call reads the tree down to the key's leaf. It takes no
-    /// memory, waits for nobody, and returns. The exchange goes on by `advance`.
-    ///
-    /// The call refuses as `exchange` does, and gives the session back; also where the session's rows are on their way back.
-    pub fn begin_exchange(
-        &self,
-        session: Session,
-        key: u64,
-        expected: u64,
-        pointer: u64,
-    ) -> Result<Pending, (Session, Full)>
-        requires its_own { IsSessionOf self.now session }
-        ensures begun { IfOk result (HasBegun self.now (Exchange key expected pointer) session) }
-        ensures full { IfErr result
-            (λ refused. LacksRoom (Exchange key expected pointer) session refused.0) }
-        ensures unchanged { IfErr result (λ refused. IsSameBesideRoom session refused.0) }
-    {
-        self.begin(session, Op::Exchange(key, expected, pointer))
-    }
-
-    /// Begins a deletion of an expected pointer: what `delete_exact` does, with no wait. The call reads the tree down to the
-    /// key's leaf. It takes no memory, waits for nobody, and returns. The deletion goes on by `advance`.
-    ///
-    /// The call refuses as `delete_exact` does, and gives the session back.
-    pub fn begin_delete_exact(
-        &self,
-        session: Session,
-        key: u64,
-        expected: u64,
-    ) -> Result<Pending, (Session, Full)>
-        requires its_own { IsSessionOf self.now session }
-        ensures begun { IfOk result (HasBegun self.now (DeleteExact key expected) session) }
-        ensures full { IfErr result
-            (λ refused. LacksRoom (DeleteExact key expected) session refused.0) }
-        ensures unchanged { IfErr result (λ refused. IsSameBesideRoom session refused.0) }
-    {
-        self.begin(session, Op::DeleteExact(key, expected))
+        let begun = Snapshot::of(&session);
+        let Session { mut member } = session;
+        if !member.draw(&self.live, op) {
+            let session = Session { member };
+            return Err((session, Full));
+        }
+        let now = member.begin(&self.live, op);
+        Ok(Pending { now, begun })
     }
 
     /// Takes the operation's next steps. It returns the session and the operation's answer once the operation has ended, exactly
-    /// those of `insert`, `delete`, `replace`, `exchange` or `delete_exact`. It gives the operation back, whole and with its
-    /// session, after `tries` steps in vain, at least one: another session had the latch of the page that it wants, or was about
-    /// to make the root of a new level that it posts to. Then it holds no page's latch. The next call goes on from there. The
-    /// call takes no memory, waits for nobody, and returns.
+    /// those of `change`. It gives the operation back, whole and with its session, after `tries` steps in vain, at least one: another
+    /// session had the latch of the page that it wants, or was about to make the root of a new level that it posts to. Then it holds no
+    /// page's latch. The next call goes on from there. The call takes no memory, waits for nobody, and returns.
     pub fn advance(&self, pending: Pending, tries: u32) -> Result<(Session, Answer), Pending>
         requires its_own { IsPendingOf self.now pending }
         ensures answered { IfOk result
@@ -147,25 +80,6 @@ impl Map {
                 Err(Pending { now, begun })
             }
         }
-    }
-
-    /// Begins an insertion, a deletion, a replacement or an exchange, as the four calls above do.
-    pub fn begin(&self, session: Session, op: Op) -> Result<Pending, (Session, Full)>
-        requires its_own { IsSessionOf self.now session }
-        requires updates { IsUpdate op }
-        requires fits { FitsWords op }
-        ensures begun { IfOk result (HasBegun self.now op session) }
-        ensures full { IfErr result (λ refused. LacksRoom op session refused.0) }
-        ensures unchanged { IfErr result (λ refused. IsSameBesideRoom session refused.0) }
-    {
-        let begun = Snapshot::of(&session);
-        let Session { mut member } = session;
-        if !member.draw(&self.live, op) {
-            let session = Session { member };
-            return Err((session, Full));
-        }
-        let now = member.begin(&self.live, op);
-        Ok(Pending { now, begun })
     }
 }
 

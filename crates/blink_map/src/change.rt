@@ -1,8 +1,7 @@
-//! The operations that change a map: insert, delete, replace, exchange and delete_exact, by any session, at any key.
-ghost use Rattle.std.specs.Prelude.{◌≡◌, ◌↔◌, ◌+◌, ◌-◌, ◌<◌, ◌≤◌, ℕ, None, Some, IfOk, IsTrue, OnErr};
+//! The operations that change a map, by any session, at any key.
+ghost use Rattle.std.specs.Prelude.{◌≡◌, ◌↔◌, ◌+◌, ◌-◌, ◌<◌, ◌≤◌, None, Some, IfOk, IfSome, IsNone, IsTrue, OnErr};
 ghost use Rattle.blink_batch.specs.{FitsWords};
 ghost use Rattle.blink_batch.specs.declared.Op.{Op};
-ghost use Rattle.blink_batch.specs.declared.Op.TheVariants.{Delete, DeleteExact, Exchange, Insert, Replace};
 ghost use Rattle.blink_machine.specs.{IsUpdate};
 ghost use Rattle.blink_live.specs.declared.descent.Changed.{Changed};
 ghost use Rattle.blink_live.specs.GivingBack.{CanGiveBack, gives_back};
@@ -12,10 +11,11 @@ ghost use Rattle.blink_live.specs.Seats.{HasSameNumber, IsPassSeat};
 ghost use Rattle.blink_live.specs.Views.{is_busy, pages_of, rows_of, rows_taken, span};
 ghost use Rattle.blink_live.specs.Allowed.{length_of};
 ghost use Rattle.blink_live.specs.Shelves.{HasSpaceFor, free_in, rows_on};
+ghost use Rattle.blink_map.specs.declared.map.Session.{Session};
 ghost use Rattle.blink_map.specs.declared.member.Member.{Member};
 ghost use Rattle.blink_map.specs.Changing.{HasChanged, HasComeOut, HasDrawn, HasSetOut};
 ghost use Rattle.blink_map.specs.Places.{IsMemberOf};
-ghost use Rattle.blink_map.specs.Putting.{HasTried, WasAbsent};
+ghost use Rattle.blink_map.specs.Putting.{IsUnchangedBy, LacksKeyOf};
 ghost use Rattle.blink_map.specs.Sessions.{HasRoom, HasRoomInAll, IsAnswered, IsSameBesideRoom, IsSessionOf, LacksRoom, LacksRoomInAll};
 
 use crate::error::Full;
@@ -24,6 +24,7 @@ use crate::member::{Member, REST, next_mark};
 use crate::pool::{draw_pages, draw_rows};
 use crate::recycle::{free_rows, recycle};
 use crate::steps::{give_back, mark_place};
+use crate::waiting::{BATCH_ROWS, LOOKS, PAGE_CHUNK, ROW_CHUNK, SPINS};
 use atomic_table::Seat;
 use blink_batch::{Answer, Op};
 use blink_live::{Changed, Live, Room, Shelf, View};
@@ -36,136 +37,38 @@ use std::{hint, thread};
 // What each session puts into the latch words of pages.
 const LATCH: u64 = 1;
 
-// How often a call that may wait tries a latch at once that another session has, before its operation rests.
-const SPINS: u32 = 8;
-
-// The number of rows that a session draws at once, and of page numbers.
-const ROW_CHUNK: u64 = 1024;
-
-const PAGE_CHUNK: u64 = 512;
-
-// As many rows at least wait together, so that two looks at each of 256 places are a few loads a change. A session lets rows wait also
-// while it has free ones: else all its rows would wait at once, and it would need others meanwhile.
-pub(crate) const BATCH_ROWS: usize = 64;
-
-// How often a session that is short of rows looks whether they come back, before it waits or is refused.
-const LOOKS: u32 = 64;
-
 impl Map {
-    /// Adds an entry. It answers `Inserted`, or `Exists` with the pointer that the key has, which stays. The call takes no memory.
-    /// It waits for a page's latch that another session has, for a new root that another session is about to make, and, where the
-    /// session is short of rows and the pool too, for those that its changes have taken out and other sessions may still read.
+    /// Runs an operation that changes the map: an insertion, a deletion, a replacement, an exchange, or a deletion of an expected
+    /// pointer. It answers as the operation does on a plain map (`Op`, `Answer`), and no other session changes the key between its test
+    /// and its change. The call takes no memory. It waits for a page's latch that another session has, for a new root that another
+    /// session is about to make, and, where the session is short of rows and the pool too, for those that its changes have taken out and
+    /// other sessions may still read.
     ///
-    /// The call is refused if the key is absent, and the session has fewer than 44 rows in all, those that are on their way back too,
-    /// or fewer than 22 page numbers, and the pool can't give them. Then it changes nothing, but for what the session has drawn, and
-    /// the session may have seen more. The shortage lasts: no row or page number comes back to the session later. A key that is
-    /// there is answered `Exists` all the same.
-    pub fn insert<R: Wait>(
-        &self,
-        rt: &R,
-        session: &mut Session,
-        key: u64,
-        pointer: u64,
-    ) -> Result<Answer, Full>
+    /// The call is refused if the session has fewer rows in all than the operation may need, those that are on their way back too, or
+    /// fewer page numbers, and the pool can't give them: an insertion may need 44 rows and 22 page numbers, each other operation a row.
+    /// Then it changes nothing, but for what the session has drawn. The shortage lasts: no row or page number comes back to the session
+    /// later. An insertion is refused only if its key is absent, which it looks up then; so the session may have seen more.
+    pub fn change<R: Wait>(&self, rt: &R, session: &mut Session, op: Op) -> Result<Answer, Full>
         requires its_own { IsSessionOf self.now session.old }
-        ensures answered { IfOk result (IsAnswered self.now (Insert key pointer) session.old session.new) }
-        ensures full { OnErr result (LacksRoom (Insert key pointer) session.old session.new) }
-        ensures in_all { OnErr result (LacksRoomInAll (Insert key pointer) session.new) }
-        ensures absent { OnErr result (WasAbsent self.now key session.old session.new) }
-        ensures unchanged { OnErr result (HasTried session.old session.new) }
+        requires updates { IsUpdate op }
+        requires fits { FitsWords op }
+        ensures answered { IfOk result (IsAnswered self.now op session.old session.new) }
+        ensures full { OnErr result (LacksRoom op session.old session.new) }
+        ensures in_all { OnErr result (LacksRoomInAll op session.new) }
+        ensures absent { OnErr result (LacksKeyOf self.now op session.old session.new) }
+        ensures unchanged { OnErr result (IsUnchangedBy op session.old session.new) }
     {
-        match self.change(rt, session, Op::Insert(key, pointer)) {
+        match self.run(rt, session, op) {
             Ok(answer) => Ok(answer),
-            Err(full) => match self.find(session, key) {
-                Some(there) => Ok(Answer::Exists(there)),
+            Err(full) => match self.answer_with_no_room(session, op) {
+                Some(answer) => Ok(answer),
                 None => Err(full),
             },
         }
     }
 
-    /// Removes a key. It answers `Removed` with the key's pointer, or `Absent`. The call takes no memory. It waits for a page's
-    /// latch that another session has, and for a row to come back as `insert` does.
-    ///
-    /// The call is refused if the session has no row at all, and the pool has none. Then it changes nothing.
-    pub fn delete<R: Wait>(&self, rt: &R, session: &mut Session, key: u64) -> Result<Answer, Full>
-        requires its_own { IsSessionOf self.now session.old }
-        ensures answered { IfOk result (IsAnswered self.now (Delete key) session.old session.new) }
-        ensures full { OnErr result (LacksRoom (Delete key) session.old session.new) }
-        ensures in_all { OnErr result (LacksRoomInAll (Delete key) session.new) }
-        ensures unchanged { OnErr result (IsSameBesideRoom session.old session.new) }
-    {
-        self.change(rt, session, Op::Delete(key))
-    }
-
-    /// Replaces a key's pointer. It answers `Replaced` with the pointer before, also if both are the same, or `Absent`. The call
-    /// takes no memory. It waits for a page's latch that another session has, and for a row to come back as `insert` does.
-    ///
-    /// The call is refused if the session has no row at all, and the pool has none. Then it changes nothing.
-    pub fn replace<R: Wait>(
-        &self,
-        rt: &R,
-        session: &mut Session,
-        key: u64,
-        pointer: u64,
-    ) -> Result<Answer, Full>
-        requires its_own { IsSessionOf self.now session.old }
-        ensures answered { IfOk result (IsAnswered self.now (Replace key pointer) session.old session.new) }
-        ensures full { OnErr result (LacksRoom (Replace key pointer) session.old session.new) }
-        ensures in_all { OnErr result (LacksRoomInAll (Replace key pointer) session.new) }
-        ensures unchanged { OnErr result (IsSameBesideRoom session.old session.new) }
-    {
-        self.change(rt, session, Op::Replace(key, pointer))
-    }
-
-    /// Replaces a key's pointer, if it is the expected one. It answers `Replaced` with the expected pointer, also if the new one
-    /// is the same; `Exists` with the other pointer that the key has, which stays; or `Absent`. No other session changes the key
-    /// between the test and the replacement. The call takes no memory. It waits for a page's latch that another session has, and
-    /// for a row to come back as `insert` does.
-    ///
-    /// The call is refused if the session has no row at all, and the pool has none. Then it changes nothing.
-    pub fn exchange<R: Wait>(
-        &self,
-        rt: &R,
-        session: &mut Session,
-        key: u64,
-        expected: u64,
-        pointer: u64,
-    ) -> Result<Answer, Full>
-        requires its_own { IsSessionOf self.now session.old }
-        ensures answered { IfOk result
-            (IsAnswered self.now (Exchange key expected pointer) session.old session.new) }
-        ensures full { OnErr result (LacksRoom (Exchange key expected pointer) session.old session.new) }
-        ensures in_all { OnErr result (LacksRoomInAll (Exchange key expected pointer) session.new) }
-        ensures unchanged { OnErr result (IsSameBesideRoom session.old session.new) }
-    {
-        self.change(rt, session, Op::Exchange(key, expected, pointer))
-    }
-
-    /// Removes a key with its pointer, if the pointer is the expected one. It answers `Removed` with the expected pointer;
-    /// `Exists` with the other pointer that the key has, which stays; or `Absent`. No other session changes the key between the
-    /// test and the removal. The call takes no memory. It waits for a page's latch that another session has, and for a row to
-    /// come back as `insert` does.
-    ///
-    /// The call is refused if the session has no row at all, and the pool has none. Then it changes nothing.
-    pub fn delete_exact<R: Wait>(
-        &self,
-        rt: &R,
-        session: &mut Session,
-        key: u64,
-        expected: u64,
-    ) -> Result<Answer, Full>
-        requires its_own { IsSessionOf self.now session.old }
-        ensures answered { IfOk result
-            (IsAnswered self.now (DeleteExact key expected) session.old session.new) }
-        ensures full { OnErr result (LacksRoom (DeleteExact key expected) session.old session.new) }
-        ensures in_all { OnErr result (LacksRoomInAll (DeleteExact key expected) session.new) }
-        ensures unchanged { OnErr result (IsSameBesideRoom session.old session.new) }
-    {
-        self.change(rt, session, Op::DeleteExact(key, expected))
-    }
-
     // Runs an operation that changes the tree.
-    fn change<R: Wait>(&self, rt: &R, session: &mut Session, op: Op) -> Result<Answer, Full>
+    fn run<R: Wait>(&self, rt: &R, session: &mut Session, op: Op) -> Result<Answer, Full>
         requires its_own { IsSessionOf self.now session.old }
         requires updates { IsUpdate op }
         requires fits { FitsWords op }
@@ -181,6 +84,25 @@ impl Map {
         let answer = member.change(rt, &self.live, op);
         member.recycle(&self.live, BATCH_ROWS);
         Ok(answer)
+    }
+
+    // The answer of an operation that its session lacks room for, since it was `before`: an insertion has one, if its key is there.
+    pub(crate) fn answer_with_no_room(&self, session: &mut Session, op: Op) -> Option<Answer>
+        requires its_own { IsSessionOf self.now session.old }
+        ensures answered { IfSome result (λ answer. (before : Session)
+            → IsSameBesideRoom before session.old → IsAnswered self.now op before session.new answer) }
+        ensures refused { IsNone result → (before : Session) → IsSameBesideRoom before session.old
+            → LacksKeyOf self.now op before session.new × IsUnchangedBy op before session.new }
+        ensures full { (before : Session) → LacksRoom op before session.old → LacksRoom op before session.new }
+        ensures in_all { LacksRoomInAll op session.old → LacksRoomInAll op session.new }
+    {
+        match op {
+            Op::Insert(key, _pointer) => match self.find(session, key) {
+                Some(there) => Some(Answer::Exists(there)),
+                None => None,
+            },
+            _ => None,
+        }
     }
 }
 

@@ -1,6 +1,5 @@
 //! Looking up a key.
 ghost use Rattle.std.specs.Prelude.{◌≡◌};
-ghost use mathlib.Core.List.{IsPrefix};
 ghost use Rattle.blink_batch.specs.{pointer_of};
 ghost use Rattle.blink_live.specs.Changes.{after};
 ghost use Rattle.blink_map.specs.Finding.{HasLooked};

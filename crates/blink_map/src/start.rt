@@ -1,29 +1,32 @@
 //! An operation that changes a map, in one go: where it meets nobody, it ends at once, and its session never becomes a `Pending`.
-ghost use Rattle.std.specs.Prelude.{◌≡◌, IfErr, IfOk};
+ghost use Rattle.std.specs.Prelude.{IfErr, IfOk};
 ghost use Rattle.blink_batch.specs.{FitsWords};
 ghost use Rattle.blink_batch.specs.declared.Op.{Op};
 ghost use Rattle.blink_machine.specs.{IsUpdate};
 ghost use Rattle.blink_live.specs.Pendings.{IsWaiting};
+ghost use Rattle.blink_map.specs.declared.map.Session.{Session};
 ghost use Rattle.blink_map.specs.Changing.{HasChanged, IsAtRest};
 ghost use Rattle.blink_map.specs.Places.{IsMemberOf};
-ghost use Rattle.blink_map.specs.Sessions.{HasRoom, IsAnswered, IsSessionOf};
+ghost use Rattle.blink_map.specs.Sessions.{HasRoom, IsAnswered, IsSameBesideRoom, IsSessionOf, LacksRoom};
 ghost use Rattle.blink_map.specs.Starting.{HasStopped};
 
-use crate::change::{BATCH_ROWS, come_back, room_of};
+use crate::change::{come_back, room_of};
 use crate::map::{Map, Pending, Session, Stopped};
 use crate::member::{Member, REST, UnderWay, next_mark};
 use crate::steps::mark_place;
+use crate::waiting::BATCH_ROWS;
 use blink_batch::{Answer, Op};
 use blink_live::{Changed, Live};
 use blink_rows::Span;
 use std::snapshot::Snapshot;
 
 impl Map {
-    /// Runs an insertion, a deletion, a replacement or an exchange: what `begin` and a first `advance` do. Where no other session
-    /// has a latch that the operation wants, nothing of it is made to rest and goes on again.
+    /// Runs an operation that changes the map: what `begin` and a first `advance` do. Where no other session has a latch that the
+    /// operation wants, nothing of it is made to rest and goes on again.
     ///
-    /// It stops where `begin` refuses, and gives the session back; and where `advance` gives the operation back, after `tries`
-    /// steps in vain, at least one. The call takes no memory, waits for nobody, and returns.
+    /// It stops where `begin` refuses, and gives the session back, but for an insertion whose key is there: it looks the key up then, and
+    /// answers. It also stops where `advance` gives the operation back, after `tries` steps in vain, at least one. The call takes no memory,
+    /// waits for nobody, and returns.
     pub fn start(&self, session: Session, op: Op, tries: u32) -> Result<(Session, Answer), Stopped>
         requires its_own { IsSessionOf self.now session }
         requires updates { IsUpdate op }
@@ -34,7 +37,7 @@ impl Map {
         let begun = Snapshot::of(&session);
         let Session { mut member } = session;
         if !member.draw(&self.live, op) {
-            return Err(Stopped::Full(Session { member }));
+            return self.stop_for_room(Session { member }, op);
         }
         match member.start(&self.live, op, tries) {
             Ok((mut member, answer)) => {
@@ -42,6 +45,21 @@ impl Map {
                 Ok((Session { member }, answer))
             }
             Err(now) => Err(Stopped::Waits(Pending { now, begun })),
+        }
+    }
+
+    // Gives a session back that lacks room for the operation since it was `before`, or answers all the same.
+    fn stop_for_room(&self, session: Session, op: Op) -> Result<(Session, Answer), Stopped>
+        requires its_own { IsSessionOf self.now session }
+        ensures answered { IfOk result (λ ended. (before : Session) → IsSameBesideRoom before session
+            → IsAnswered self.now op before ended.0 ended.1) }
+        ensures stopped { IfErr result (λ stopped. (before : Session) → IsSameBesideRoom before session
+            → LacksRoom op before session → HasStopped self.now op before stopped) }
+    {
+        let mut session = session;
+        match self.answer_with_no_room(&mut session, op) {
+            Some(answer) => Ok((session, answer)),
+            None => Err(Stopped::Full(session)),
         }
     }
 }

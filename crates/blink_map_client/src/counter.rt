@@ -4,7 +4,7 @@ ghost use Rattle.blink_map.specs.{IsSessionOf, WasAbsent, place_of, places_of};
 ghost use Rattle.blink_map.specs.Putting.{HasTried};
 ghost use Rattle.blink_map_client.specs.Counting.{AreEnds, CannotRaise, HasRaised, IsAllOrRefused, IsFoundForBoth, IsRaisedTo, IsRaiseTried};
 
-use blink_batch::Answer;
+use blink_batch::{Answer, Op};
 use blink_map::{Map, Session};
 use std::sync::Wait;
 use std::thread;
@@ -82,7 +82,7 @@ fn raise_from<R: Wait>(
     requires below { there < u64.MAX }
     ensures { IsRaiseTried map.now key session.old session.new result }
 {
-    match map.exchange(rt, session, key, there, there + 1) {
+    match map.change(rt, session, Op::Exchange(key, there, there + 1)) {
         Ok(answer) => match answer {
             Answer::Replaced(_) => Some(Ok(there + 1)),
             _ => None,

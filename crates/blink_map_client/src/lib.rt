@@ -15,7 +15,7 @@ ghost use Rattle.blink_map_client.specs.Racing.{OneIsInserted};
 ghost use Rattle.blink_map_client.specs.Shown.{IsShown, WasSeen};
 ghost use Rattle.blink_map_client.specs.Whole.{AreOnlyTheirs};
 
-use blink_batch::Answer;
+use blink_batch::{Answer, Op};
 use blink_index::Index;
 use blink_map::{Full, Map, MapError, Room, Session, Unclosed};
 pub use counter::{Counted, NotRaised, raise, raise_by_two, raise_times};
@@ -71,7 +71,7 @@ pub fn open_and_find(alloc: Global, index: &Index, key: u64) -> Result<Option<u6
 }
 
 /// The one session of a map inserts an entry, and looks its key up. It finds the pointer that the key had, or the new one where the
-/// key was absent. The call refuses as `Map::insert` does.
+/// key was absent. The call refuses as `Map::change` does.
 pub fn insert_and_find<R: Wait>(
     rt: &R,
     map: &Map,
@@ -85,7 +85,7 @@ pub fn insert_and_find<R: Wait>(
         (λ found. found ≡ Some (kept_or (state_alone map.now session.old key) pointer)) }
     ensures full { IfErr result (λ full. LacksRoomInAll (Insert key pointer) session.new) }
 {
-    map.insert(rt, session, key, pointer)?;
+    map.change(rt, session, Op::Insert(key, pointer))?;
     Ok(map.find(session, key))
 }
 
@@ -107,7 +107,7 @@ pub fn insert_and_show<R: Wait>(
         → WasSeen map.now one.old one.new key there }
     ensures full { IsErrOf result NotInserted.Full → LacksRoomInAll (Insert key pointer) one.new }
 {
-    match map.insert(rt, one, key, pointer) {
+    match map.change(rt, one, Op::Insert(key, pointer)) {
         Ok(Answer::Inserted) => {}
         Ok(Answer::Exists(there)) => return Err(NotInserted::Exists(there)),
         Ok(_) => unreachable!(),
@@ -145,10 +145,10 @@ pub fn insert_by_two<R: Wait>(
         return Err(NotInserted::Exists(there));
     }
     map.tell(one, other);
-    let Ok(first) = map.insert(rt, one, key, pointers.0) else {
+    let Ok(first) = map.change(rt, one, Op::Insert(key, pointers.0)) else {
         return Err(NotInserted::Full);
     };
-    let Ok(second) = map.insert(rt, other, key, pointers.1) else {
+    let Ok(second) = map.change(rt, other, Op::Insert(key, pointers.1)) else {
         return Err(NotInserted::Full);
     };
     map.tell(one, other);

@@ -6,7 +6,7 @@ use crate::{
     Counted, NotInserted, NotRaised, close_with_all, insert_and_find, insert_and_show,
     insert_by_two, open_and_close, open_and_find, raise, raise_by_two, raise_times,
 };
-use blink_batch::Answer;
+use blink_batch::{Answer, Op};
 use blink_index::Index;
 use blink_map::{Map, Room, Session};
 use std::alloc::Global;
@@ -16,7 +16,10 @@ use std::sync::Wait;
 fn five<R: Wait + Abort>(rt: &R, alloc: Global) -> Index {
     let empty = Index::new(alloc, 4).expect(rt, "no index");
     let (map, mut session) = one_of(rt, alloc, &empty);
-    assert_eq!(rt; map.insert(rt, &mut session, 5, 50), Ok(Answer::Inserted));
+    assert_eq!(rt;
+        map.change(rt, &mut session, Op::Insert(5, 50)),
+        Ok(Answer::Inserted)
+    );
     let mut sessions = Vec::new(alloc);
     sessions.push(session).expect(rt, "no memory");
     let closed = close_with_all(alloc, map, sessions).ok();
@@ -141,7 +144,7 @@ fn two_sessions_raise_no_absent_key(rt: HostRuntime) {
 fn a_counter_ends_at_the_greatest_number(rt: HostRuntime) {
     let (map, mut session) = one_of(&rt, rt.alloc(), &five(&rt, rt.alloc()));
     assert_eq!(rt; raise(&rt, &map, &mut session, 5), Ok(51));
-    let replaced = map.replace(&rt, &mut session, 5, u64::MAX - 2);
+    let replaced = map.change(&rt, &mut session, Op::Replace(5, u64::MAX - 2));
     assert_eq!(rt; replaced, Ok(Answer::Replaced(51)));
     assert_eq!(rt; raise_times(&rt, &map, &mut session, 5, 4), 2);
     assert_eq!(rt; map.find(&mut session, 5), Some(u64::MAX));

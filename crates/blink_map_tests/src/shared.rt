@@ -1,6 +1,7 @@
 //! A map with two sessions, whose calls have no condition: what is so of them is in the type.
-ghost use Rattle.std.specs.Prelude.{◌≡◌};
-ghost use Rattle.blink_map.specs.{IsSessionOf, map_at};
+ghost use Rattle.std.specs.Prelude.{◌≡◌, IfOk};
+ghost use Rattle.blink_batch.specs.{FitsWords};
+ghost use Rattle.blink_map.specs.{IsSessionOf, IsUpdate, map_at};
 
 use crate::same::{given, same_for};
 use blink_batch::{Answer, Op};
@@ -155,6 +156,20 @@ pub(crate) fn close(alloc: Global, map: Map) -> Result<Index, MapError> {
     }
 }
 
+// The operation, if it changes a map, or the key that it looks up.
+pub(crate) fn change_of(op: Op) -> Result<Op, u64>
+    ensures { IfOk result (λ op. IsUpdate op × FitsWords op) }
+{
+    match op {
+        Op::Find(key) => Err(key),
+        Op::Insert(key, pointer) => Ok(Op::Insert(key, pointer)),
+        Op::Delete(key) => Ok(Op::Delete(key)),
+        Op::Replace(key, pointer) => Ok(Op::Replace(key, pointer)),
+        Op::Exchange(key, expected, pointer) => Ok(Op::Exchange(key, expected, pointer)),
+        Op::DeleteExact(key, expected) => Ok(Op::DeleteExact(key, expected)),
+    }
+}
+
 // Runs the operation by this session.
 pub(crate) fn apply<R: Wait>(
     rt: &R,
@@ -165,13 +180,9 @@ pub(crate) fn apply<R: Wait>(
     requires { IsSessionOf map.now session.old }
     ensures { IsSessionOf map.now session.new }
 {
-    match op {
-        Op::Find(key) => Ok(op.answer(map.find(session, key))),
-        Op::Insert(key, pointer) => map.insert(rt, session, key, pointer),
-        Op::Delete(key) => map.delete(rt, session, key),
-        Op::Replace(key, pointer) => map.replace(rt, session, key, pointer),
-        Op::Exchange(key, expected, pointer) => map.exchange(rt, session, key, expected, pointer),
-        Op::DeleteExact(key, expected) => map.delete_exact(rt, session, key, expected),
+    match change_of(op) {
+        Ok(op) => map.change(rt, session, op),
+        Err(key) => Ok(op.answer(map.find(session, key))),
     }
 }
 

@@ -4,7 +4,7 @@ ghost use Rattle.blink_map.specs.{IsPendingOf, IsSessionOf};
 
 use crate::same::{same, same_for};
 use crate::shared::Who::{One, Other};
-use crate::shared::{Two, Who, call, close};
+use crate::shared::{Two, Who, call, change_of, close};
 use crate::story::Act::{AtOnce, Call, InSteps, InsertEach, Interrupt};
 use crate::story::{End, Story, play};
 use blink_batch::{Answer, Op};
@@ -25,22 +25,15 @@ fn begin(
     ensures begun { IfOk result (IsPendingOf map.now) }
     ensures refused { IfErr result (λ refused. IsSessionOf map.now refused.0) }
 {
-    let begun = match op {
-        Op::Find(key) => {
+    match change_of(op) {
+        Ok(op) => match map.begin(session, op) {
+            Ok(pending) => Ok(pending),
+            Err((session, full)) => Err((session, Err(full))),
+        },
+        Err(key) => {
             let answer = op.answer(map.find(&mut session, key));
-            return Err((session, Ok(answer)));
+            Err((session, Ok(answer)))
         }
-        Op::Insert(key, pointer) => map.begin_insert(session, key, pointer),
-        Op::Delete(key) => map.begin_delete(session, key),
-        Op::Replace(key, pointer) => map.begin_replace(session, key, pointer),
-        Op::Exchange(key, expected, pointer) => {
-            map.begin_exchange(session, key, expected, pointer)
-        }
-        Op::DeleteExact(key, expected) => map.begin_delete_exact(session, key, expected),
-    };
-    match begun {
-        Ok(pending) => Ok(pending),
-        Err((session, full)) => Err((session, Err(full))),
     }
 }
 

@@ -1,16 +1,15 @@
 -- What the answers of a put's insertion and replacement tell.
-use Rattle.std.proofs.Common.{◌≡◌, ◌≢◌, ℕ, Option, Some, None, ◌++◌, ◌∙◌, inl, inr, refl, sym, ap, subst}
+use Rattle.std.proofs.Common.{◌≡◌, ◌≢◌, ℕ, Option, Some, None, inl, inr, refl, ap, subst}
 use Rattle.std.specs.Prelude.{◌⊎◌}
 use Rattle.blink_batch.specs.declared.Answer.{Answer}
-use Rattle.blink_batch.specs.declared.Answer.TheVariants.{Exists, Inserted, Replaced}
+use Rattle.blink_batch.specs.declared.Answer.TheVariants.{Inserted, Replaced}
 use Rattle.blink_batch.specs.declared.Op.{Op}
 use Rattle.blink_batch.specs.declared.Op.TheVariants.{Insert, Replace}
 use Rattle.blink_batch.specs.{answer_at, key_of, pointer_of}
-use Rattle.blink_live.specs.{after, changes_made}
-use Rattle.blink_live.proofs.Offered.{prefix_of_prefix}
+use Rattle.blink_live.specs.{after}
 use Rattle.blink_map.specs.declared.map.Map.{Map}
 use Rattle.blink_map.specs.declared.map.Session.{Session}
-use Rattle.blink_map.specs.{HasTried, IsAnswered, IsPut, WasAbsent, opening_of, place_of, seen_by}
+use Rattle.blink_map.specs.{HasTried, IsAnswered, IsPut, opening_of}
 use Rattle.blink_map.proofs.PutsAreChanges.{put_by_insertion, put_by_replacement, tried_in_vain, tried_to_insert, tried_to_replace}
 use Rattle.blink_owners.specs.Raw.{raw_answer}
 use Rattle.blink_owners.specs.Sessions.{IsOfPut, raw_put}
@@ -25,18 +24,6 @@ no_insertion_replaces key pointer was (Some pointer_there) is = cc
 no_replacement_inserts : (key pointer : ℕ) (there : Option ℕ) → Inserted ≡ answer_at (Replace key pointer) there → ⊥
 no_replacement_inserts key pointer None is = cc
 no_replacement_inserts key pointer (Some pointer_there) is = cc
-
-no_replacement_exists : (key pointer was : ℕ) (there : Option ℕ) → Exists was ≡ answer_at (Replace key pointer) there → ⊥
-no_replacement_exists key pointer was None is = cc
-no_replacement_exists key pointer was (Some there) is = cc
-
-not_there : (key pointer : ℕ) (kept : Option ℕ) (answer : Answer) → answer ≡ answer_at (Replace key pointer) kept → ((was : ℕ) → Replaced was ≢ answer) → kept ≡ None
-not_there key pointer None answer is not_replaced = refl
-not_there key pointer (Some there) answer is not_replaced = absurd (not_replaced there (sym is))
-
-insertion_says : (key pointer : ℕ) (kept : Option ℕ) (answer : Answer) → answer ≡ answer_at (Insert key pointer) kept → Inserted ≢ answer → ((was : ℕ) → Exists was ≢ answer) → ⊥
-insertion_says key pointer None answer is not_inserted not_there_yet = not_inserted (sym is)
-insertion_says key pointer (Some there) answer is not_inserted not_there_yet = not_there_yet there (sym is)
 
 -- the pointer that a put has found, with its answer
 abbrev pub PutWith : Map → ℕ → ℕ → Session → Session → Answer → Type 0
@@ -59,24 +46,3 @@ module _ (map : Map) (key pointer : ℕ) (op : Op) (before now : Session) (answe
   pub put_tried : IsOfPut key pointer op → Inserted ≢ answer → ((was : ℕ) → Replaced was ≢ answer) → HasTried before now
   put_tried (inl inserts) not_inserted not_replaced = tried_to_insert map before now key pointer answer (told (Insert key pointer) answer inserts refl) not_inserted
   put_tried (inr replaces) not_inserted not_replaced = tried_to_replace map before now key pointer answer (told (Replace key pointer) answer replaces refl) not_replaced
-
-  -- a put goes on with an insertion only where the key was absent
-  pub was_absent : IsOfPut key pointer op → Inserted ≢ answer → ((was : ℕ) → Replaced was ≢ answer) → ((was : ℕ) → Exists was ≢ answer) → WasAbsent map key before now
-  was_absent (inl inserts) not_inserted not_replaced not_exists =
-      let is = told (Insert key pointer) answer inserts refl in absurd (insertion_says key pointer (found (Insert key pointer) answer is) answer is.in_order.answers not_inserted not_exists)
-  was_absent (inr replaces) not_inserted not_replaced not_exists =
-      let is = told (Replace key pointer) answer replaces refl in
-      record {
-        before = is.in_order.before;
-        saw = is.in_order.saw;
-        absent = not_there key pointer (found (Replace key pointer) answer is) answer is.in_order.answers not_replaced;
-        goes_on = prefix_of_prefix is.in_order.before (is.in_order.before ++ changes_made (place_of before) (Replace key pointer) (found (Replace key pointer) answer is)) (seen_by now)
-            (changes_made (place_of before) (Replace key pointer) (found (Replace key pointer) answer is), refl) is.in_order.goes_on;
-      }
-
--- a replacement that has replaced nothing found the key absent
-pub replacement_found_absent : (map : Map) (key pointer : ℕ) (before now : Session) (answer : Answer) → IsAnswered map (Replace key pointer) before now answer → ((was : ℕ) → Replaced was ≢ answer)
-    → WasAbsent map key before now
-replacement_found_absent map key pointer before now answer is not_replaced = was_absent map key pointer (Replace key pointer) before now answer is (inr refl)
-    (λ inserts. no_replacement_inserts key pointer (found map key pointer (Replace key pointer) before now answer is (Replace key pointer) answer is) (inserts ∙ is.in_order.answers)) not_replaced
-    (λ was exists. no_replacement_exists key pointer was (found map key pointer (Replace key pointer) before now answer is (Replace key pointer) answer is) (exists ∙ is.in_order.answers))

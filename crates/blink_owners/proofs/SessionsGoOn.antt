@@ -1,5 +1,5 @@
 -- A session whose operation goes on: what a call makes of it, where the handle was empty within the call.
-use Rattle.std.proofs.Common.{◌≡◌, ◌≢◌, ℕ, refl, Result, Ok, Err, IfErr, OnErr, OnOk, ap, ◌∙◌, subst}
+use Rattle.std.proofs.Common.{◌≡◌, ℕ, Result, Ok, Err, IfErr, OnErr, OnOk, ap, ◌∙◌, subst}
 use Rattle.std.specs.Arc.{arc_value}
 use Rattle.std.specs.declared.alloc.Global.{Global}
 use Rattle.std.specs.declared.sync.Arc.{Arc}
@@ -8,15 +8,14 @@ use Rattle.blink_batch.specs.declared.Op.TheVariants.{Delete, DeleteExact, Excha
 use Rattle.blink_map.specs.declared.map.Map.{Map}
 use Rattle.blink_map.specs.declared.map.Session.{Session}
 use Rattle.blink_map.specs.declared.map.Pending.{Pending}
-use Rattle.blink_live.proofs.Offered.{prefix_of_prefix}
-use Rattle.blink_map.specs.{GoesOn, HasTried, IsAnswered, IsPendingOf, IsPut, seen_by}
+use Rattle.blink_map.specs.{GoesOn, HasTried, IsAnswered, IsPendingOf, IsPut, LacksKeyOf}
 use Rattle.blink_map.proofs.PutsAreChanges.{absent_then, tried_twice}
 use Rattle.blink_owners.specs.declared.raw.RawAnswer.{RawAnswer}
 use Rattle.blink_owners.specs.declared.map_refusal.MapRefusal.{MapRefusal}
 use Rattle.blink_owners.specs.declared.map_refusal.MapRefusal.TheVariants as refused
 use Rattle.blink_owners.specs.declared.session_owner.SessionOwner.{SessionOwner}
 use Rattle.blink_owners.specs.declared.shared_map.SharedMap.{SharedMap}
-use Rattle.blink_owners.specs.Sessions.{HasAnswered, HasPut, IsNotEnded, IsNotPut, IsOfSameMap, LacksKeyOf, LacksRoomFor, LacksRoomToPut, StaysBusy, in_map}
+use Rattle.blink_owners.specs.Sessions.{HasAnswered, HasPut, IsNotEnded, IsNotPut, IsOfSameMap, LacksRoomFor, LacksRoomToPut, StaysBusy, in_map}
 
 -- ---- by the outcome
 
@@ -101,17 +100,6 @@ module _ (old gone new : SessionOwner) (same : IsOfSameMap old gone) where
   not_put_through key pointer before refused.Idle is = is
   not_put_through key pointer before refused.Closed is = is
 
-  pub lacks_for_through : (op : Op) (before : Session) (refusal : MapRefusal) → LacksRoomFor op before gone new refusal → LacksRoomFor op before old new refusal
-  lacks_for_through op before refusal lacks = record {
-    now = lacks.now;
-    is = lacks.is;
-    same = same_through lacks.same;
-    lacks = lacks.lacks;
-    shortage = lacks.shortage;
-    absent = subst (λ (map : Map). LacksKeyOf map op before lacks.now) one_map lacks.absent;
-    unchanged = lacks.unchanged;
-  }
-
 -- ---- a session that lacks room
 
 pub not_ended_for_room : (op : Op) (before : Session) (old new : SessionOwner) (refusal : MapRefusal) → LacksRoomFor op before old new refusal → IsNotEnded op before old new refusal
@@ -143,24 +131,6 @@ absent_before map (Delete key) first before now tried absent = tt
 absent_before map (Replace key pointer) first before now tried absent = tt
 absent_before map (Exchange key expected pointer) first before now tried absent = tt
 absent_before map (DeleteExact key expected) first before now tried absent = tt
-
--- and one that has been absent up to a time was so up to a later one
-pub absent_later : (map : Map) (op : Op) (first before now : Session) → HasTried before now → LacksKeyOf map op first before → LacksKeyOf map op first now
-absent_later map (Insert key pointer) first before now tried absent = record { before = absent.before; saw = absent.saw; absent = absent.absent; goes_on = prefix_of_prefix absent.before (seen_by before) (seen_by now) absent.goes_on tried.saw }
-absent_later map (Find key) first before now tried absent = tt
-absent_later map (Delete key) first before now tried absent = tt
-absent_later map (Replace key pointer) first before now tried absent = tt
-absent_later map (Exchange key expected pointer) first before now tried absent = tt
-absent_later map (DeleteExact key expected) first before now tried absent = tt
-
--- an operation that doesn't insert
-pub no_insertion : (map : Map) (op : Op) (before now : Session) → ((key pointer : ℕ) → op ≢ Insert key pointer) → LacksKeyOf map op before now
-no_insertion map (Insert key pointer) before now other = absurd (other key pointer refl)
-no_insertion map (Find key) before now other = tt
-no_insertion map (Delete key) before now other = tt
-no_insertion map (Replace key pointer) before now other = tt
-no_insertion map (Exchange key expected pointer) before now other = tt
-no_insertion map (DeleteExact key expected) before now other = tt
 
 lacks_before : (key pointer : ℕ) (first before : Session) (old new : SessionOwner) (refusal : MapRefusal) → HasTried first before
     → LacksRoomToPut key pointer before old new refusal → LacksRoomToPut key pointer first old new refusal

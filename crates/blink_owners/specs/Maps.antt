@@ -1,5 +1,5 @@
 -- A map behind a handle: what the calls make of it, and why they are refused.
-use Rattle.std.specs.Prelude.{◌≡◌, ◌⊎◌, ◌<◌, ◌≤◌, ℕ, List, [], All, ⊤}
+use Rattle.std.specs.Prelude.{◌≡◌, ◌⊎◌, ◌<◌, ◌≤◌, ℕ, List, [], ⊤}
 use Rattle.std.specs.Arc.{arc_value}
 use Rattle.blink_map.specs.declared.error.MapError.{MapError}
 use Rattle.blink_map.specs.declared.error.MapError.TheVariants as map

@@ -12,7 +12,7 @@ use Rattle.blink_map.specs.declared.error.MapError.TheVariants.{OutOfMemory}
 use Rattle.blink_map.specs.declared.map.Map.{Map}
 use Rattle.blink_map.specs.declared.map.Session.{Session}
 use Rattle.blink_map.specs.declared.map.Pending.{Pending}
-use Rattle.blink_map.specs.{GoesOn, HasBegun, HasTried, IsAnswered, IsPendingOf, IsPut, IsSameBesideSeen, IsSameSession, IsSessionOf, LacksRoom, LacksRoomInAll, op_of, opening_of, seen_by, session_of, stock_of, WasAbsent}
+use Rattle.blink_map.specs.{GoesOn, HasBegun, HasTried, IsAnswered, IsPendingOf, IsPut, IsSameBesideSeen, IsSameSession, IsSessionOf, IsUnchangedBy, LacksKeyOf, LacksRoom, LacksRoomInAll, op_of, opening_of, seen_by, session_of, stock_of}
 use Rattle.blink_owners.specs.declared.raw.RawAnswer.{RawAnswer}
 use Rattle.blink_owners.specs.declared.raw.RawScanned.{RawScanned}
 use Rattle.blink_owners.specs.declared.raw.RawStock.{RawStock}
@@ -157,12 +157,7 @@ IsShortage op session refused.Full = LacksRoomInAll op session
 IsShortage op session refused.RowsBusy = ¬ LacksRoomInAll op session
 IsShortage op session refusal = ⊥
 
--- where the operation is an insertion, its key was absent
-abbrev pub LacksKeyOf : Map → Op → Session → Session → Type 0
-LacksKeyOf map (Insert key pointer) before now = WasAbsent map key before now
-LacksKeyOf map op before now = ⊤
-
--- the session lacked room, and has made no change
+-- the session lacked room, and has made no change. Where the operation is an insertion, its key was absent
 pub record LacksRoomFor (op : Op) (before : Session) (old new : SessionOwner) (refusal : MapRefusal) : Type 0 where
   pub now : Session
   pub is : new.held ≡ Free now
@@ -170,7 +165,7 @@ pub record LacksRoomFor (op : Op) (before : Session) (old new : SessionOwner) (r
   pub lacks : LacksRoom op before now
   pub shortage : IsShortage op now refusal
   pub absent : LacksKeyOf (in_map old) op before now
-  pub unchanged : HasTried before now
+  pub unchanged : IsUnchangedBy op before now
 
 -- why the operation of a free session hasn't ended
 abbrev pub IsNotEnded : Op → Session → SessionOwner → SessionOwner → MapRefusal → Type 0

@@ -1,13 +1,15 @@
 //! What the box of a pass's handle holds: an owner of the table, and the pass or its operation.
-ghost use Rattle.std.specs.Prelude.{◌≡◌, ◌≢◌, IfErr, IfOk, OnErr, OnOk};
-ghost use Rattle.blink_batch.specs.declared.Op.TheVariants.{Delete, DeleteExact, Exchange, Insert, Replace};
-ghost use Rattle.blink_live.specs.{IsPassOf, IsPendingOf};
+ghost use Rattle.std.specs.Prelude.{◌≡◌, ◌≢◌, ◌↔◌, Contains, IfErr, IfOk, IsErrOf, OnErr, OnOk};
+ghost use Rattle.blink_batch.specs.{key_of};
+ghost use Rattle.blink_machine.specs.{IsUpdate};
+ghost use Rattle.blink_live.specs.{HasBegun, IsPassOf, IsPendingOf, keys_of};
+ghost use Rattle.blink_live.specs.Allowed.{changes_left};
 ghost use Rattle.blink_owners.specs.Passes.{Begins, Ends, Finds, Glances, Hands, IsAdvanceRefusal, IsBeginRefusal, IsFindRefusal, IsHandRefusal, IsNotBusy, IsNotFree, IsOwn, IsTakeRefusal, IsTellRefusal, Scans, Takes, TellsOn, table_of};
 
 use crate::raw::{RawAnswer, RawScanned, RawTaken};
 use crate::table_refusal::TableRefusal;
-use blink_batch::Entry;
-use blink_live::{Live, LiveError, Pass, Pending};
+use blink_batch::{Entry, Op};
+use blink_live::{Live, LiveError, Pass, PassError, Pending};
 use std::alloc::Global;
 use std::mem;
 use std::sync::Arc;
@@ -186,105 +188,17 @@ impl PassOwner {
         }
     }
 
-    /// Begins an insertion of a key of the pass.
-    pub fn begin_insert(&mut self, key: u64, pointer: u64) -> Result<(), TableRefusal>
+    /// Begins an operation that changes the tree, on a key of the pass.
+    pub fn begin(&mut self, op: Op) -> Result<(), TableRefusal>
         requires its_own { IsOwn self.old }
+        requires updates { IsUpdate op }
         ensures its_own { IsOwn self.new }
-        ensures begun { OnOk result (Begins (Insert key pointer) self.old self.new) }
-        ensures refused { IfErr result (IsBeginRefusal (Insert key pointer) self.old.held) }
+        ensures begun { OnOk result (Begins op self.old self.new) }
+        ensures refused { IfErr result (IsBeginRefusal op self.old.held) }
         ensures unchanged { OnErr result (self.new ≡ self.old) }
     {
         let pass = self.take_free()?;
-        match self.live.begin_insert(pass, key, pointer) {
-            Ok(pending) => {
-                self.held = Held::Busy(pending);
-                Ok(())
-            }
-            Err((pass, refusal)) => {
-                self.held = Held::Free(pass);
-                Err(TableRefusal::Pass(refusal))
-            }
-        }
-    }
-
-    /// Begins a deletion of a key of the pass.
-    pub fn begin_delete(&mut self, key: u64) -> Result<(), TableRefusal>
-        requires its_own { IsOwn self.old }
-        ensures its_own { IsOwn self.new }
-        ensures begun { OnOk result (Begins (Delete key) self.old self.new) }
-        ensures refused { IfErr result (IsBeginRefusal (Delete key) self.old.held) }
-        ensures unchanged { OnErr result (self.new ≡ self.old) }
-    {
-        let pass = self.take_free()?;
-        match self.live.begin_delete(pass, key) {
-            Ok(pending) => {
-                self.held = Held::Busy(pending);
-                Ok(())
-            }
-            Err((pass, refusal)) => {
-                self.held = Held::Free(pass);
-                Err(TableRefusal::Pass(refusal))
-            }
-        }
-    }
-
-    /// Begins a replacement of a key of the pass.
-    pub fn begin_replace(&mut self, key: u64, pointer: u64) -> Result<(), TableRefusal>
-        requires its_own { IsOwn self.old }
-        ensures its_own { IsOwn self.new }
-        ensures begun { OnOk result (Begins (Replace key pointer) self.old self.new) }
-        ensures refused { IfErr result (IsBeginRefusal (Replace key pointer) self.old.held) }
-        ensures unchanged { OnErr result (self.new ≡ self.old) }
-    {
-        let pass = self.take_free()?;
-        match self.live.begin_replace(pass, key, pointer) {
-            Ok(pending) => {
-                self.held = Held::Busy(pending);
-                Ok(())
-            }
-            Err((pass, refusal)) => {
-                self.held = Held::Free(pass);
-                Err(TableRefusal::Pass(refusal))
-            }
-        }
-    }
-
-    /// Begins an exchange of a key of the pass.
-    pub fn begin_exchange(
-        &mut self,
-        key: u64,
-        expected: u64,
-        pointer: u64,
-    ) -> Result<(), TableRefusal>
-        requires its_own { IsOwn self.old }
-        ensures its_own { IsOwn self.new }
-        ensures begun { OnOk result (Begins (Exchange key expected pointer) self.old self.new) }
-        ensures refused { IfErr result (IsBeginRefusal (Exchange key expected pointer) self.old.held) }
-        ensures unchanged { OnErr result (self.new ≡ self.old) }
-    {
-        let pass = self.take_free()?;
-        match self.live.begin_exchange(pass, key, expected, pointer) {
-            Ok(pending) => {
-                self.held = Held::Busy(pending);
-                Ok(())
-            }
-            Err((pass, refusal)) => {
-                self.held = Held::Free(pass);
-                Err(TableRefusal::Pass(refusal))
-            }
-        }
-    }
-
-    /// Begins a deletion of a key of the pass, if its pointer is the expected one.
-    pub fn begin_delete_exact(&mut self, key: u64, expected: u64) -> Result<(), TableRefusal>
-        requires its_own { IsOwn self.old }
-        ensures its_own { IsOwn self.new }
-        ensures begun { OnOk result (Begins (DeleteExact key expected) self.old self.new) }
-        ensures refused { IfErr result (IsBeginRefusal (DeleteExact key expected) self.old.held) }
-        ensures unchanged { OnErr result (self.new ≡ self.old) }
-    {
-        let pass = self.take_free()?;
-        match self.live.begin_delete_exact(pass, key, expected) {
+        match begin_by(&self.live, pass, op) {
             Ok(pending) => {
                 self.held = Held::Busy(pending);
                 Ok(())
@@ -354,5 +268,25 @@ impl PassOwner {
             }
             Held::Gone => Err(TableRefusal::Returned),
         }
+    }
+}
+
+// Begins whichever operation it is by the table's call of its name.
+fn begin_by(live: &Live, pass: Pass, op: Op) -> Result<Pending, (Pass, PassError)>
+    requires its_own { IsPassOf live.now pass }
+    requires updates { IsUpdate op }
+    ensures begun { IfOk result (HasBegun live.now op pass) }
+    ensures not_yours { IsErrOf result (pass, PassError.NotYours) ↔ ¬ Contains (keys_of pass) (key_of op) }
+    ensures spent { IsErrOf result (pass, PassError.Spent)
+        ↔ (Contains (keys_of pass) (key_of op) × (changes_left op pass.pages pass.rows ≡ 0)) }
+    ensures unchanged { IfErr result (λ refused. refused.0 ≡ pass) }
+{
+    match op {
+        Op::Insert(key, pointer) => live.begin_insert(pass, key, pointer),
+        Op::Delete(key) => live.begin_delete(pass, key),
+        Op::Replace(key, pointer) => live.begin_replace(pass, key, pointer),
+        Op::Exchange(key, expected, pointer) => live.begin_exchange(pass, key, expected, pointer),
+        Op::DeleteExact(key, expected) => live.begin_delete_exact(pass, key, expected),
+        Op::Find(_) => unreachable!(),
     }
 }

@@ -1,10 +1,10 @@
 //! What the box of a session's handle holds: an owner of the map, and the session or its operation.
-ghost use Rattle.std.specs.Prelude.{◌≡◌, ◌≢◌, IfErr, IfOk, OnErr, OnOk};
+ghost use Rattle.std.specs.Prelude.{◌≡◌, IfErr, IfOk, OnErr, OnOk};
 ghost use Rattle.blink_batch.specs.{FitsWords};
 ghost use Rattle.blink_machine.specs.{IsUpdate};
-ghost use Rattle.blink_map.specs.{HasTried, IsAnswered, IsPendingOf, IsSameBesideRoom, IsSessionOf, LacksRoom, op_of, session_of, WasAbsent};
+ghost use Rattle.blink_map.specs.{HasTried, IsAnswered, IsPendingOf, IsSessionOf, op_of, session_of};
 ghost use Rattle.blink_map.specs.declared.map.Session.{Session};
-ghost use Rattle.blink_owners.specs.Sessions.{Answers, EndsFrom, Finds, HasAnswered, HasPut, IsAdvanceRefusal, IsChangeRefusal, IsFree, IsNotFree, IsNotPut, IsOfPut, IsOwnSession, IsPutRefusal, IsShortage, IsTakeRefusal, IsTellRefusal, LacksKeyOf, LacksRoomFor, Puts, Scans, StaysBusy, Takes, TellsOn, TellsStock, in_map};
+ghost use Rattle.blink_owners.specs.Sessions.{Answers, EndsFrom, Finds, HasAnswered, HasPut, IsAdvanceRefusal, IsChangeRefusal, IsNotFree, IsNotPut, IsOfPut, IsOwnSession, IsPutRefusal, IsShortage, IsTakeRefusal, IsTellRefusal, Puts, Scans, StaysBusy, Takes, TellsOn, TellsStock, in_map};
 
 use crate::map_refusal::MapRefusal;
 use crate::raw::{RawAnswer, RawScanned, RawStock, RawTaken};
@@ -144,8 +144,7 @@ impl SessionOwner {
         Ok(())
     }
 
-    /// Begins an operation that changes the map, and takes its steps. An insertion that the session has no room for is answered
-    /// all the same, if its key is there.
+    /// Begins an operation that changes the map, and takes its steps (`Map::start`).
     pub fn change(&mut self, op: Op, tries: u32, answer: &mut RawAnswer) -> Result<(), MapRefusal>
         requires its_own { IsOwnSession self.old }
         requires updates { IsUpdate op }
@@ -166,7 +165,11 @@ impl SessionOwner {
                 self.held = HeldSession::Busy(pending);
                 Err(MapRefusal::UnderWay)
             }
-            Err(Stopped::Full(session)) => self.refuse(session, op, answer),
+            Err(Stopped::Full(session)) => {
+                let refusal = shortage(&session, op);
+                self.held = HeldSession::Free(session);
+                Err(refusal)
+            }
         }
     }
 
@@ -246,38 +249,6 @@ impl SessionOwner {
         }
     }
 
-    // Gives the session back, which lacks room for the operation. An insertion is answered, if its key is there.
-    fn refuse(&mut self, session: Session, op: Op, answer: &mut RawAnswer) -> Result<(), MapRefusal>
-        requires its_own { IsSessionOf (in_map self.old) session }
-        ensures its_own { IsOwnSession self.new }
-        ensures answered { OnOk result ((before : Session) → IsSameBesideRoom before session
-            → HasAnswered op before self.old self.new answer.new) }
-        ensures refused { IfErr result (λ refusal. (before : Session) → LacksRoom op before session
-            → IsSameBesideRoom before session → LacksRoomFor op before self.old self.new refusal) }
-        ensures unchanged { OnErr result (answer.new ≡ answer.old) }
-    {
-        let mut session = session;
-        match op {
-            Op::Insert(key, _pointer) => match self.shared.map.find(&mut session, key) {
-                Some(there) => {
-                    self.held = HeldSession::Free(session);
-                    *answer = RawAnswer::of(Answer::Exists(there));
-                    Ok(())
-                }
-                None => {
-                    let refusal = shortage(&session, op);
-                    self.held = HeldSession::Free(session);
-                    Err(refusal)
-                }
-            },
-            _ => {
-                let lack = shortage(&session, op);
-                self.held = HeldSession::Free(session);
-                Err(lack)
-            }
-        }
-    }
-
     // Takes the next steps of an operation.
     fn go_on(
         &mut self,
@@ -347,7 +318,6 @@ impl SessionOwner {
         ensures ended { OnOk result ((first : Session) → HasTried first session
             → HasPut key pointer first self.old self.new answer.new) }
         ensures refused { IfErr result (λ refusal. (first : Session) → HasTried first session
-            → WasAbsent (in_map self.old) key first session
             → IsNotPut key pointer first self.old self.new refusal) }
         ensures unchanged { OnErr result (answer.new ≡ answer.old) }
     {
@@ -381,7 +351,6 @@ impl SessionOwner {
         ensures unchanged { OnOk result (self.new ≡ self.old) }
         ensures its_own { OnErr result (IsOwnSession self.new) }
         ensures refused { IfErr result (λ refusal. (first : Session) → HasTried first session
-            → LacksKeyOf (in_map self.old) op first session
             → IsNotPut key pointer first self.old self.new refusal) }
     {
         match self.shared.map.start(session, op, tries) {

@@ -52,6 +52,7 @@ mod read;
 mod reader;
 mod sys;
 mod table;
+mod waiting;
 
 pub use error::Error;
 pub use guards::{Guard, Guards, Held, Noted};

@@ -2,7 +2,7 @@
 
 use crate::range::{snapshot, LiveRange};
 use crate::sys::{self, Code, Handle, RawAnswer};
-use crate::table::TRIES;
+use crate::waiting::TRIES;
 use crate::{Answer, Error, Index, Op};
 use std::fmt;
 use std::marker::PhantomData;

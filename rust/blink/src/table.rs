@@ -2,6 +2,7 @@
 
 use crate::range::{snapshot, LiveRange};
 use crate::sys::{self, Code, Handle, RawAnswer};
+use crate::waiting::TRIES;
 use crate::{Answer, Error, Index};
 use std::cell::UnsafeCell;
 use std::fmt;
@@ -157,9 +158,6 @@ pub struct Pass {
 
 // SAFETY: `PassHandle` of crates/blink_c is proved to be `Send`. It isn't `Sync`, by its cell.
 unsafe impl Send for Pass {}
-
-// How many steps in vain an operation takes before its thread yields.
-pub(crate) const TRIES: u32 = 100;
 
 impl Pass {
     /// Looks a key of the pass up, whatever other passes do. A key of another pass is refused with [`Error::NotYours`]:

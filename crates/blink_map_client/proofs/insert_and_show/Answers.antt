@@ -17,9 +17,9 @@ returns-clause-shown g c =
     let is = c.in-Ok-Inserted.ensures.answered.in_order in
     let before : List Change = is.before in
     let made = insertion_made author key pointer (after opening before key) (sym c.in-Ok-Inserted.field-0-is ∙ is.answers) in
-    let own : IsPrefix (before ++ change_to author key pointer ∷ []) (seen_by c.insert.new.session) = subst (λ (l : List Change). IsPrefix (before ++ l) (seen_by c.insert.new.session)) made is.goes_on in
-    let told : IsPrefix (seen_by c.insert.new.session) (seen_by c.find.new.session) = prefix_of_prefix (seen_by c.insert.new.session) (seen_by c.tell.new.to) (seen_by c.find.new.session) c.tell.ensures.told c.find.ensures.same.saw in
-    let later = goes_on_with (before ++ change_to author key pointer ∷ []) (seen_by c.insert.new.session) (seen_by c.find.new.session) own told in (
+    let own : IsPrefix (before ++ change_to author key pointer ∷ []) (seen_by c.change.new.session) = subst (λ (l : List Change). IsPrefix (before ++ l) (seen_by c.change.new.session)) made is.goes_on in
+    let told : IsPrefix (seen_by c.change.new.session) (seen_by c.find.new.session) = prefix_of_prefix (seen_by c.change.new.session) (seen_by c.tell.new.to) (seen_by c.find.new.session) c.tell.ensures.told c.find.ensures.same.saw in
+    let later = goes_on_with (before ++ change_to author key pointer ∷ []) (seen_by c.change.new.session) (seen_by c.find.new.session) own told in (
       before,
       later.0,
       later.1,

@@ -41,15 +41,15 @@ returns-clause-one_is_first g c =
     let one : Session = c.find.new.session in
     let one_still : Session = c.tell-2.new.from in
     let other : Session = c.tell-2.new.to in
-    let one_back : Session = c.insert.new.session in
-    let other_back : Session = c.insert-2.new.session in
+    let one_back : Session = c.change.new.session in
+    let other_back : Session = c.change-2.new.session in
     let one_told : Session = c.tell-3.new.from in
     let last : Session = c.tell-3.new.to in
     let one_last : Session = c.tell-4.new.to in
     let seen : List Change = seen_by one in
     let final : List Change = seen_by last in
     let first = c.in-Ok.ensures.answered in
-    let second = c.in-Ok-insert.ensures.answered in
+    let second = c.in-Ok-change.ensures.answered in
     let still = c.tell-2.ensures.from in
     let told = c.tell-2.ensures.to in
     let before = c.tell.ensures.from in
@@ -73,13 +73,13 @@ returns-clause-one_is_first g c =
     made_between (place_of one_back) (seen_by one_back) final (seen_by one_last) (made_by one_back) one_comes c.tell-4.ensures.told (saw_own one_back)
     (ap (λ (place : ℕ). made_at place (seen_by one_last)) (sym one_end_place) ∙ (saw_own one_last ∙ one_end_made)) in
     let its = inserts map seen final key c.args.pointers.0 one_still one_back c.in-Ok.first first had ones_own one_comes ones_final in
-    let theirs = inserts map seen final key c.args.pointers.1 other other_back c.in-Ok-insert.second second c.tell-2.ensures.told others_own other_comes others_final in
+    let theirs = inserts map seen final key c.args.pointers.1 other other_back c.in-Ok-change.second second c.tell-2.ensures.told others_own other_comes others_final in
     let differ : place_of one_still ≢ place_of other = λ e. c.requires.apart (sym ones_place ∙ (e ∙ others_place)) in
     let is_one = c.requires.ones in
     let is_other = c.requires.others in
     let its_last : IsSessionOf map last =
     still_its map other_back last (still_its map other other_back (still_its map c.tell.new.from other (still_its map others_first c.tell.new.from is_other before.same_member) told.same_member) second.same_member) c.tell-3.ensures.to.same_member in
-    one_of_two (pointer_of (opening_of map)) seen final later.0 later.1 (place_of one_still) (place_of other) key c.args.pointers.0 c.args.pointers.1 c.in-Ok.first c.in-Ok-insert.second differ
+    one_of_two (pointer_of (opening_of map)) seen final later.0 later.1 (place_of one_still) (place_of other) key c.args.pointers.0 c.args.pointers.1 c.in-Ok.first c.in-Ok-change.second differ
     (subst (λ (n : ℕ). place_of one_still < n) c.requires.no_third (subst (λ (p : ℕ). p < places_of map) (sym ones_place) (place_inside map c.args.one.now is_one)))
     (subst (λ (n : ℕ). place_of other < n) c.requires.no_third (subst (λ (p : ℕ). p < places_of map) (sym others_place) (place_inside map others_first is_other)))
     (subst (λ (n : ℕ). HaveAuthors n final) c.requires.no_third (authors_in map last its_last)) (sym c.find.ensures.state ∙ c.in_default.is) its theirs

@@ -1,4 +1,3 @@
-use Rattle.std.proofs.Common.{refl}
 use Rattle.blink_map.proofs.PendingsGoOn.{has_begun}
 use Rattle.blink_map.proofs.map.Map.begin.Goals as goal
 

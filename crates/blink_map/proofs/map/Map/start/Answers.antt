@@ -1,6 +1,22 @@
-use Rattle.std.proofs.Common.{◌∙◌}
+use Rattle.std.proofs.Common.{◌∙◌, IfOk, Result, Ok, Err}
+use Rattle.blink_batch.specs.declared.Answer.{Answer}
+use Rattle.blink_batch.specs.declared.Op.{Op}
+use Rattle.blink_map.specs.declared.map.Map.{Map}
+use Rattle.blink_map.specs.declared.map.Session.{Session}
+use Rattle.blink_map.specs.declared.map.Stopped.{Stopped}
+use Rattle.blink_map.specs.Sessions.{IsAnswered, IsSameBesideRoom}
 use Rattle.blink_map.proofs.PendingsGoOn.{answered, changed_then, has_begun, its_member}
 use Rattle.blink_map.proofs.map.Map.start.Goals as goal
+
+answered_before : (map : Map) (op : Op) (before drawn : Session) (outcome : Result (Session × Answer) Stopped) → IsSameBesideRoom before drawn
+    → IfOk outcome (λ ended. (first : Session) → IsSameBesideRoom first drawn → IsAnswered map op first ended.0 ended.1) → IfOk outcome (λ ended. IsAnswered map op before ended.0 ended.1)
+answered_before map op before drawn (Ok ended) same all = all before same
+answered_before map op before drawn (Err stopped) same all = tt
+
+pub returns-then-not-draw-clause-answered : goal.returns-then-not-draw-clause-answered
+returns-then-not-draw-clause-answered c =
+    let drawn = c.draw.ensures.drawn in
+    answered_before c.args.self.now c.args.op c.args.session (record { member = c.draw.new.self }) c.stop_for_room.result (record { seen = drawn.seen; made = drawn.made; same_member = drawn.same_member }) c.stop_for_room.ensures.answered
 
 pub recycle-requires : goal.recycle-requires
 recycle-requires c =

@@ -1,10 +1,10 @@
 use Rattle.std.proofs.Common.{inl, refl, ap, ◌∙◌, subst}
 use Rattle.std.specs.Arc.{arc_value}
-use Rattle.blink_map.specs.{HasBegun, HasStopped, IsAnswered}
+use Rattle.blink_map.specs.{HasBegun, HasStopped, IsAnswered, LacksKeyOf}
 use Rattle.blink_owners.specs.declared.session_owner.SessionOwner.{SessionOwner}
 use Rattle.blink_owners.specs.declared.shared_map.SharedMap.{SharedMap}
-use Rattle.blink_owners.specs.Sessions.{IsOfSameMap}
-use Rattle.blink_owners.proofs.SessionsGoOn.{answered_through, if_err, lacks_for_through, not_ended_for_room, on_ok}
+use Rattle.blink_owners.specs.declared.session_owner.HeldSession.TheVariants.{Free}
+use Rattle.blink_owners.proofs.SessionsGoOn.{not_ended_for_room}
 use Rattle.blink_owners.proofs.session_owner.SessionOwner.change.Goals as goal
 
 pub returns-in-Ok-clause-answered : goal.returns-in-Ok-clause-answered
@@ -39,27 +39,23 @@ returns-in-Err-Waits-clause-refused c =
       },
     )
 
-pub returns-in-Err-Full-clause-answered : goal.returns-in-Err-Full-clause-answered
-returns-in-Err-Full-clause-answered c =
-    let old = c.args.self.now in
-    let gone = c.in_ok-session.ensures.gone in
-    let same : IsOfSameMap old c.take_free.new.self = record { same_map = ap (λ (owner : SessionOwner). owner.shared) gone; same_number = ap (λ (owner : SessionOwner). owner.number) gone } in
-    let stopped = subst (HasStopped c.deref.result.now.map c.args.op c.in_ok-session.session) c.in-Err-Full.field-0-is c.in-Err-Full.ensures.stopped in
-    on_ok c.refuse.result (λ has. record {
-      before = c.in_ok-session.session;
-      was = c.in_ok-session.ensures.free;
-      ended = answered_through old c.take_free.new.self c.refuse.new.self same c.args.op c.in_ok-session.session c.refuse.new.answer (has c.in_ok-session.session stopped.1);
-    }) c.refuse.ensures.answered
-
 pub returns-in-Err-Full-clause-refused : goal.returns-in-Err-Full-clause-refused
 returns-in-Err-Full-clause-refused c =
-    let old = c.args.self.now in
     let before = c.in_ok-session.session in
+    let now = c.in-Err-Full.session in
     let gone = c.in_ok-session.ensures.gone in
-    let same : IsOfSameMap old c.take_free.new.self = record { same_map = ap (λ (owner : SessionOwner). owner.shared) gone; same_number = ap (λ (owner : SessionOwner). owner.number) gone } in
-    let stopped = subst (HasStopped c.deref.result.now.map c.args.op c.in_ok-session.session) c.in-Err-Full.field-0-is c.in-Err-Full.ensures.stopped in
-    if_err c.refuse.result (λ refusal why. inl (
+    let map_is = c.deref.ensures ∙ ap (λ (owner : SessionOwner). arc_value owner.shared) gone in
+    let stopped = subst (HasStopped c.deref.result.now.map c.args.op before) c.in-Err-Full.field-0-is c.in-Err-Full.ensures.stopped in
+    inl (
       before,
       c.in_ok-session.ensures.free,
-      not_ended_for_room c.args.op before old c.refuse.new.self refusal (lacks_for_through old c.take_free.new.self c.refuse.new.self same c.args.op before refusal (why before stopped.0 stopped.1)),
-    )) c.refuse.ensures.refused
+      not_ended_for_room c.args.op before c.args.self.now (record c.take_free.new.self { held = Free now }) c.shortage-refusal.result (record {
+        now = now;
+        is = refl;
+        same = record { same_map = ap (λ (owner : SessionOwner). owner.shared) gone; same_number = ap (λ (owner : SessionOwner). owner.number) gone };
+        lacks = stopped.0;
+        shortage = c.shortage-refusal.ensures;
+        absent = subst (λ (shared : SharedMap). LacksKeyOf shared.map c.args.op before now) map_is stopped.1;
+        unchanged = stopped.2;
+      }),
+    )

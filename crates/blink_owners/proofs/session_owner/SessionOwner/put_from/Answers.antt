@@ -1,13 +1,11 @@
-use Rattle.std.proofs.Common.{◌∙◌, inr, refl, sym, ap, subst}
+use Rattle.std.proofs.Common.{◌∙◌, inr, refl, sym, ap}
 use Rattle.std.proofs.lemmas.Result.{err_from_is_err_and}
 use Rattle.blink_batch.specs.declared.Op.TheVariants.{Replace}
-use Rattle.blink_map.specs.declared.map.Map.{Map}
-use Rattle.blink_map.specs.{WasAbsent}
 use Rattle.blink_map.proofs.PutsAreChanges.{tried_to_replace}
 use Rattle.blink_owners.specs.declared.session_owner.SessionOwner.{SessionOwner}
 use Rattle.blink_owners.specs.Sessions.{IsOfSameMap, in_map}
-use Rattle.blink_owners.proofs.AnswersOfPuts.{put_answered, replacement_found_absent, tried_nothing}
-use Rattle.blink_owners.proofs.SessionsGoOn.{if_err, not_put_through, on_ok, one_map, put_through}
+use Rattle.blink_owners.proofs.AnswersOfPuts.{put_answered, tried_nothing}
+use Rattle.blink_owners.proofs.SessionsGoOn.{if_err, not_put_through, on_ok, put_through}
 use Rattle.blink_owners.proofs.session_owner.SessionOwner.put_from.Goals as goal
 
 pub returns-in-Replaced-clause-ended : goal.returns-in-Replaced-clause-ended
@@ -39,12 +37,10 @@ returns-in_default-clause-refused c =
     let unchanged = c.in_ok-session.ensures.unchanged in
     let same : IsOfSameMap old c.start_by.new.self = record { same_map = ap (λ (owner : SessionOwner). owner.shared) unchanged; same_number = ap (λ (owner : SessionOwner). owner.number) unchanged } in
     let tried = tried_to_replace (in_map old) c.args.session c.in_ok-session.session c.args.key c.args.pointer c.in_ok-session.given c.in_ok-session.ensures.ended (λ was is. c.in_default.not-Replaced was (sym is)) in
-    let absent = replacement_found_absent (in_map old) c.args.key c.args.pointer c.args.session c.in_ok-session.session c.in_ok-session.given c.in_ok-session.ensures.ended (λ was is. c.in_default.not-Replaced was (sym is)) in
-    let absent_there = subst (λ (map : Map). WasAbsent map c.args.key c.args.session c.in_ok-session.session) (sym (one_map old c.start_by.new.self c.put_new.new.self same)) absent in
-    if_err c.put_new.result (λ refusal why. not_put_through old c.start_by.new.self c.put_new.new.self same c.args.key c.args.pointer c.args.session refusal (why c.args.session tried absent_there))
+    if_err c.put_new.result (λ refusal why. not_put_through old c.start_by.new.self c.put_new.new.self same c.args.key c.args.pointer c.args.session refusal (why c.args.session tried))
     c.put_new.ensures.refused
 
 pub returns-in_err-session-clause-refused : goal.returns-in_err-session-clause-refused
 returns-in_err-session-clause-refused c =
     let told = err_from_is_err_and c.from_residual.result c.from_residual.ensures.1 in
-    rw (told.1, told.2) (c.in_err-session.ensures.refused c.args.session (tried_nothing c.args.session) tt)
+    rw (told.1, told.2) (c.in_err-session.ensures.refused c.args.session (tried_nothing c.args.session))

@@ -25,7 +25,7 @@ returns-in-Inserted-clause-ended c first tried =
     }
 
 pub returns-in_default-clause-refused : goal.returns-in_default-clause-refused
-returns-in_default-clause-refused c first tried absent =
+returns-in_default-clause-refused c first tried =
     let old = c.args.self.now in
     let unchanged = c.in_ok-session.ensures.unchanged in
     let same : IsOfSameMap old c.start_by.new.self = record { same_map = ap (λ (owner : SessionOwner). owner.shared) unchanged; same_number = ap (λ (owner : SessionOwner). owner.number) unchanged } in
@@ -36,4 +36,4 @@ returns-in_default-clause-refused c first tried absent =
 pub returns-in_err-session-clause-refused : goal.returns-in_err-session-clause-refused
 returns-in_err-session-clause-refused c =
     let told = err_from_is_err_and c.from_residual.result c.from_residual.ensures.1 in
-    rw (told.1, told.2) (λ first tried absent. c.in_err-session.ensures.refused first tried absent)
+    rw (told.1, told.2) (λ first tried. c.in_err-session.ensures.refused first tried)

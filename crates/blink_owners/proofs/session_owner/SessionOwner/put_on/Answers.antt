@@ -5,7 +5,7 @@ use Rattle.blink_owners.specs.declared.shared_map.SharedMap.{SharedMap}
 use Rattle.blink_map.specs.declared.map.Session.{Session}
 use Rattle.blink_map.specs.{HasTried, IsAnswered, IsPendingOf, op_of, session_of}
 use Rattle.blink_owners.specs.Sessions.{IsOfPut, in_map}
-use Rattle.blink_owners.proofs.AnswersOfPuts.{put_answered, put_tried, tried_nothing, was_absent}
+use Rattle.blink_owners.proofs.AnswersOfPuts.{put_answered, put_tried, tried_nothing}
 use Rattle.blink_owners.proofs.SessionsGoOn.{if_err, on_ok}
 use Rattle.blink_owners.proofs.session_owner.SessionOwner.put_on.Goals as goal
 
@@ -45,9 +45,7 @@ returns-in_default-clause-refused c =
     let answered = subst (λ (shared : SharedMap). IsAnswered shared.map op before c.in-Ok.session c.in-Ok.given) c.deref.ensures c.in-Ok.ensures.answered in
     let tried = put_tried (in_map c.args.self.now) c.args.key c.args.pointer op before c.in-Ok.session c.in-Ok.given answered c.requires.of_put
     (λ is. c.in_default.not-Inserted (sym is)) (λ was is. c.in_default.not-Replaced was (sym is)) in
-    let absent = was_absent (in_map c.args.self.now) c.args.key c.args.pointer op before c.in-Ok.session c.in-Ok.given answered c.requires.of_put
-    (λ is. c.in_default.not-Inserted (sym is)) (λ was is. c.in_default.not-Replaced was (sym is)) (λ was is. c.in_default.not-Exists was (sym is)) in
-    if_err c.put_new.result (λ refusal why. why before tried absent) c.put_new.ensures.refused
+    if_err c.put_new.result (λ refusal why. why before tried) c.put_new.ensures.refused
 
 pub returns-in-Err-clause-refused : goal.returns-in-Err-clause-refused
 returns-in-Err-clause-refused c =

@@ -1,0 +1,24 @@
+//! How often calls of a map try before they wait or give up, and how much a session takes from the pool at once. Most cost time on one
+//! side or the other, and none decides what a call answers.
+
+// How often `Map::change` tries a latch at once that another session has, before its operation rests and its thread yields. Each try
+// reads a word that the other session is about to write.
+pub(crate) const SPINS: u32 = 8;
+
+// How often a call of a session that is short of rows looks whether they come back, before `Map::change` yields, or `begin` and `start`
+// refuse. Each look goes over places of other sessions.
+pub(crate) const LOOKS: u32 = 64;
+
+// As many rows at least wait together, so that two looks at each of 256 places are a few loads a change. A session lets rows wait also
+// while it has free ones: else all its rows would wait at once, and it would need others meanwhile. Each change ends with a look at it.
+pub(crate) const BATCH_ROWS: usize = 64;
+
+// The number of rows that a session draws at once, and of page numbers. A draw is a step at a word which all sessions share. What a
+// session has drawn no other one can use.
+pub(crate) const ROW_CHUNK: u64 = 1024;
+
+pub(crate) const PAGE_CHUNK: u64 = 512;
+
+/// How often an operation tries to go on whose session is freed, before its place is lost with it. Only a session that another one holds
+/// up for so long pays for it.
+pub const FREE_TRIES: u32 = 1000;
