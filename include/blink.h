@@ -485,9 +485,9 @@ void blink_pass_free(blink_pass pass);
  * map has then. A split of a page takes one of `pages` page numbers, and every write of a page one of `rows` rows. An insertion writes one
  * page mostly, and has to have 22 numbers and 44 rows when it begins; a deletion, a replacement or an exchange has to have one row.
  * Sessions draw both from the map's pool, at most 512 numbers and 1,024 rows at once; what one draws no other gets, before its place is
- * taken again. One that has fewer than 22 numbers draws others, and keeps those where the pool's next ones follow them, as they do while
- * nobody else draws; else it loses them. So splits by one session take 19,979 of 20,000 numbers, 979 of 1,000, and 179 of 200 (measured);
- * where several draw by turns from a small pool, much less: have some thousands.
+ * taken again. One that has fewer than 22 numbers draws others, and keeps those that it had, which it uses first. So no number is lost:
+ * when all is full, each session has at most 21 left, and the pool as many. Splits by one session take 19,979 of 20,000 numbers, 979 of
+ * 1,000, and 179 of 200 (measured).
  * Half of the rows are the sessions', in equal parts, of 44 at least and 4,096 at most; a new page keeps one of the others. Tested: a row
  * that a write replaces comes back to its session, once each call that was in progress has ended. So two rows for each page number, and a
  * few hundred for each session, are enough for all changes as long as the page numbers last. While a thread is held up inside a call no

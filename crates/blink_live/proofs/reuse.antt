@@ -4,3 +4,4 @@ pub mod StocksChange
 pub mod RowsWait
 pub mod RowsComeIn
 pub mod RowsAreFreed
+pub mod NumbersAreExchanged

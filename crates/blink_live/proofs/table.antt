@@ -1,6 +1,7 @@
 pub mod MapsWithOneChange
 pub mod SeatsThatStay
 pub mod CallsOfSeats
+pub mod SparesOfSeats
 pub mod SpentSeats
 pub mod LoadsKeepTable
 pub mod NextPageIsThere

@@ -202,7 +202,8 @@ pub record MarksPlace (busy : ℕ) (me then : SeatState) : Type 0 where
 abbrev pub marks_place : Step ℕ → SeatState → ℕ → SeatState → Type 0
 marks_place st me found then = MarksPlace st.first me then
 
--- ---- a word of the pool, where a number of it becomes a greater one: the seat has the rows, or page numbers, between
+-- ---- a word of the pool, where a number of it becomes a greater one: the seat has the rows, or page numbers, between; the page
+-- ---- numbers that it had stand beside
 
 pub record Draws (drawn : View) (old : ℕ) (me : SeatState) (found : ℕ) (then : SeatState) : Type 0 where
   pub got : found ≡ old → then ≡ (drawn, me.1)
@@ -212,7 +213,7 @@ abbrev pub draws_rows : Step ℕ → SeatState → ℕ → SeatState → Type 0
 draws_rows st me found then = Draws (has_rows me.0 (span st.first st.second)) st.first me found then
 
 abbrev pub draws_pages : Step ℕ → SeatState → ℕ → SeatState → Type 0
-draws_pages st me found then = Draws (has_pages me.0 (span st.first st.second)) st.first me found then
+draws_pages st me found then = Draws (has_pages me.0 (span st.first st.second) me.0.pages) st.first me found then
 
 -- ---- a word of the first row that the seat's call may use
 

@@ -48,6 +48,7 @@ pub mod Codes
 pub mod Rule
 pub mod Views
 pub mod AtomicSteps
+pub mod Spares
 pub mod Seats
 pub mod Updating
 pub mod Straight

@@ -23,7 +23,7 @@ use Rattle.blink_live.specs.declared.view.View.{View}
 use Rattle.blink_live.specs.Changes.{after, states_of}
 use Rattle.blink_live.specs.Accounts.{AreAccounts}
 use Rattle.blink_live.specs.Looks.{HasLooked}
-use Rattle.blink_live.specs.Reuse.{IsReuseSafe}
+use Rattle.blink_live.specs.Reuse.{IsReuseSafe, IsWithin}
 use Rattle.blink_live.specs.Views.{IsCommon, IsOwned, latch_number_by, span}
 use Rattle.blink_live.specs.Words.{word_count, place_word, pool_page, pool_row, IsRowNumber, RowBegins}
 
@@ -87,6 +87,14 @@ pub record HasForCall (plan : Plan) (owners : Owners) (words : List ℕ) (tree_s
   pub others : HasRows plan owners owner (span (suc call.rows.next) call.rows.stop)
   pub numbers : HasNumbers plan owners tree_state owner call.pages
 
+-- the spare page numbers have this owner, which isn't the host's; no page has them, they stand before those that the pass may still
+-- use, and none is its call's
+pub record HasSpare (plan : Plan) (owners : Owners) (tree_state : TreeState) (owner : ℕ) (spare : Span) (page : ℕ) (call : Span) : Type 0 where
+  pub numbers : HasNumbers plan owners tree_state owner spare
+  pub sessions : spare.next < spare.stop → 2 ≤ owner
+  pub before : spare.next < spare.stop → spare.stop ≤ page
+  pub apart : (number : ℕ) → IsWithin spare number → ¬ IsWithin call number
+
 -- the share's statement of one of its keys: the key has this owner and the share's state, and its changes are the share's
 pub record IsOwnKey (plan : Plan) (owners : Owners) (log : List Change) (owner : ℕ) (share : Share) (key : ℕ) : Type 0 where
   pub own : owners.key key ≡ owner
@@ -146,6 +154,7 @@ pub record Knows (plan : Plan) (owners : Owners) (words : List ℕ) (tree_state 
   pub rows : HasRows plan owners (suc seat) v.rows
   pub numbers : HasNumbers plan owners tree_state (suc seat) v.pages
   pub for_call : HasForCall plan owners words tree_state (suc seat) v.call v.rows.next v.pages.next
+  pub spare : HasSpare plan owners tree_state (suc seat) v.stock.spare v.pages.next v.call.pages
   pub share : IsShare plan owners log (suc seat) v.share
   pub saw : IsPrefix v.seen log
   pub heard : IsPrefix v.told log

@@ -1,6 +1,6 @@
--- Where a session keeps the rows of its stock between the steps of its operations.
+-- Where a session keeps the rows and the page numbers of its stock between the steps of its operations.
 use Rattle.std.specs.Prelude.{◌≡◌, ℕ, suc, ◌+◌, ◌≤◌, Option, Some, None, List, reverse, ⊤}
-use Rattle.std.specs.Coded.{×_prop, Unit-prop, le_prop}
+use Rattle.std.specs.Coded.{×_prop, le_prop}
 use Rattle.std.proofs.Props.{props}
 use Rattle.blink_rows.specs.declared.span.Span.{Span}
 use Rattle.blink_live.specs.declared.room.Room.{Room}
@@ -8,9 +8,9 @@ use Rattle.blink_live.specs.declared.shelf.Shelf.{Shelf}
 use Rattle.blink_live.specs.declared.view.Stock.{Stock}
 use Rattle.blink_live.specs.declared.view.View.{View}
 use Rattle.blink_live.specs.ComingBack.{takes_in, with_stock}
-use Rattle.blink_live.specs.Views.{IsCommon, SeatState, no_aside, takes_out}
+use Rattle.blink_live.specs.Views.{IsCommon, IsOwned, SeatState, no_aside, takes_out}
 
--- the stock whose rows stand on the shelf: what came last is taken first
+-- the stock that stands on the shelf: of its rows what came last is taken first
 abbrev pub stock_of : Shelf → Stock
 stock_of shelf = record {
   free = reverse shelf.free.items;
@@ -19,6 +19,7 @@ stock_of shelf = record {
   before = shelf.before.items;
   passed = shelf.passed;
   aside = no_aside;
+  spare = shelf.spare;
 }
 
 -- the number of the shelf's free rows
@@ -43,18 +44,18 @@ KeepsSpace old new = (count : ℕ) → HasSpaceFor old count → HasSpaceFor new
 abbrev pub KeepsSpaceButOne : Option Shelf → Option Shelf → Type 0
 KeepsSpaceButOne old new = (count : ℕ) → HasSpaceFor old (suc count) → HasSpaceFor new count
 
--- a session's shelf has its stock; a pass has no shelf
+-- a session's shelf has its stock; a pass has no shelf, and is of a table whose keys passes own
 abbrev pub IsShelved : Option Shelf → View → Type 0
-IsShelved None v = ⊤
+IsShelved None v = IsOwned v.plan
 IsShelved (Some shelf) v = IsCommon v.plan × (v.stock ≡ stock_of shelf)
 
 pub IsShelved-prop : (shelf : Option Shelf) (v : View) → IsProp (IsShelved shelf v)
-IsShelved-prop None v = Unit-prop
+IsShelved-prop None v = let same : IsProp (v.plan.places ≡ 0) = hlevel (props) in same
 IsShelved-prop (Some shelf) v = let same : IsProp (v.stock ≡ stock_of shelf) = hlevel (props) in ×_prop le_prop same
 
 -- but for this row, which the seat has taken out since
 abbrev pub IsShelvedBut : ℕ → Option Shelf → View → Type 0
-IsShelvedBut out None v = ⊤
+IsShelvedBut out None v = IsOwned v.plan
 IsShelvedBut out (Some shelf) v = IsCommon v.plan × (v.stock ≡ takes_out out (stock_of shelf))
 
 -- the shelf has lent its last free row to the call

@@ -17,7 +17,8 @@ use Rattle.blink_live.specs.declared.view.View.{View}
 use Rattle.blink_live.specs.AtomicSteps.{AnswersInOrder, CanGoOn}
 use Rattle.blink_live.specs.Seats.{HasSameNumber, IsFirst, IsPassSeat}
 use Rattle.blink_live.specs.Shelves.{HasSpaceFor, IsShelved, free_in}
-use Rattle.blink_live.specs.Views.{SeatState, KnowsItsOwn, CanBegin, MayChange, for_call, latch_number_by, no_words, pages_of, rows_of, rows_taken, span}
+use Rattle.blink_live.specs.Spares.{HasAny}
+use Rattle.blink_live.specs.Views.{SeatState, KnowsItsOwn, CanBegin, MayChange, for_call, latch_number_by, no_words, pages_of, rows_of, rows_taken, span, IsCommon}
 use Rattle.blink_live.specs.Words.{AreNumbersIn, AreRowsIn, IsRowNumber}
 
 -- what an operation may use of its seat's rows and page numbers: the first of them
@@ -119,6 +120,10 @@ pub record CanWrite (live : Live) (m : PlainMachine) (row : ℕ) (its : Seat ℕ
   pub blank : its.me.0.call.staged ≡ no_words
   pub may : MayChange its.me.0 (key_of m.op)
 
+-- a session uses spare page numbers first: while some are left, the call has all that it began with
+abbrev pub UsesSpareFirst : View → View → Type 0
+UsesSpareFirst first v = IsCommon v.plan → HasAny v.stock.spare → (v.call.pages.next ≡ first.pages.next) × HasAny first.stock.spare
+
 -- the state between two turns of the operation: the seat was `first` when the operation began, and has the rows and page numbers
 -- that its call has left
 pub record IsUnderWay (live : Live) (op : Op) (first seat : Seat ℕ View) (m : PlainMachine) (room : Room) : Type 0 where
@@ -129,3 +134,4 @@ pub record IsUnderWay (live : Live) (op : Op) (first seat : Seat ℕ View) (m : 
   pub latch_number : room.latch_number ≡ latch_number_by first.me.0
   pub shelved : IsShelved room.shelf seat.me.0
   pub left : HasLeft room.shelf (for_call first.me.0 op).call seat.me.0.call m
+  pub spare_first : UsesSpareFirst first.me.0 seat.me.0

@@ -49,9 +49,9 @@ no_call = record { rows = span 1 1; pages = span 1 1; staged = no_words }
 abbrev pub no_aside : Aside
 no_aside = record { rows = span 1 1; call = span 1 1 }
 
--- the stock of a seat that has taken out no row
+-- the stock of a seat that has taken out no row, and has no spare page number
 abbrev pub no_stock : Stock
-no_stock = record { free = []; retired = []; waiting = []; before = []; passed = 0; aside = no_aside }
+no_stock = record { free = []; retired = []; waiting = []; before = []; passed = 0; aside = no_aside; spare = span 1 1 }
 
 -- nothing is noted for a snapshot
 abbrev pub no_look : Look
@@ -184,12 +184,16 @@ SameBesideReads v w = w ≡ record v { operation = w.operation; descent_bound = 
 abbrev pub going_on : View → PlainMachine → ℕ → View
 going_on v after way = record v { operation = goes_on after after.state; descent_bound = way }
 
--- the seat has these rows now, or these page numbers, and nothing for its last call
+-- other page numbers are beside
+abbrev pub with_spare : Span → Stock → Stock
+with_spare spare stock = record stock { spare = spare }
+
+-- the seat has these rows now, or these page numbers and those beside, and nothing for its last call
 abbrev pub has_rows : View → Span → View
 has_rows v rows = record v { rows = rows; call = no_call }
 
-abbrev pub has_pages : View → Span → View
-has_pages v pages = record v { pages = pages; call = no_call }
+abbrev pub has_pages : View → Span → Span → View
+has_pages v pages spare = record v { pages = pages; call = no_call; stock = with_spare spare v.stock }
 
 -- the place's word is this now, and the seat reads no row and has noted none
 abbrev pub is_busy : View → ℕ → View

@@ -213,7 +213,8 @@ impl Play<u8, View> for DrawRows {
     ghost then = { draws_rows };
 }
 
-/// The compare-and-exchange in the pool's second word of a page number for a later one: the seat has the numbers between.
+/// The compare-and-exchange in the pool's second word of a page number for a later one: the seat has the numbers between, and
+/// beside them those that it had.
 pub struct DrawPages;
 
 impl Play<u8, View> for DrawPages {
@@ -292,6 +293,15 @@ impl Play<u8, View> for PutRowsBack {
     ghost use Rattle.blink_live.specs.ComingBack.{puts_rows_back};
 
     ghost then = { puts_rows_back };
+}
+
+/// The load of the prime block's page word by a session whose call exchanges its page numbers and the spare ones.
+pub struct ExchangeNumbers;
+
+impl Play<u8, View> for ExchangeNumbers {
+    ghost use Rattle.blink_live.specs.Spares.{exchanges_numbers};
+
+    ghost then = { exchanges_numbers };
 }
 
 /// What a deal gives to a new pass, and which keys are taken after it. Each call picks them.

@@ -1,16 +1,19 @@
-//! Where a session keeps the rows of its stock, and how an operation writes such rows.
-ghost use Rattle.std.specs.Prelude.{◌≡◌, suc, IfNone, IfSome};
+//! Where a session keeps the rows and the page numbers of its stock, and how an operation writes such rows.
+ghost use Rattle.std.specs.Prelude.{◌≡◌, ◌↔◌, suc, IfNone, IfSome, IsTrue};
 ghost use Rattle.blink_live.specs.Seats.{HasSameNumber, IsPassSeat};
 ghost use Rattle.blink_live.specs.Shelves.{HasSpaceFor, IsLent, IsSameBesideShelf, IsShelved, IsShelvedBut, KeepsSpace, KeepsSpaceButOne, free_in};
+ghost use Rattle.blink_live.specs.Spares.{HasAny, HasExchanged, HasSpareOf, spare_on};
 ghost use Rattle.blink_live.specs.Words.{IsRowNumber};
 
 use crate::live::Live;
 use crate::room::Room;
 use crate::view::View;
 use atomic_table::Seat;
+use blink_rows::Span;
+use std::mem;
 
-/// The rows of a session's stock, and what it has seen of the places while some of them wait. The memory of each list is taken
-/// once.
+/// The rows of a session's stock, what it has seen of the places while some of them wait, and its spare page numbers. The memory
+/// of each list is taken once.
 #[derive(Drop)]
 pub struct Shelf {
     /// The rows that no seat reads.
@@ -23,6 +26,8 @@ pub struct Shelf {
     pub before: Vec<u64>,
     /// The number of places, from the first on, whose sessions are past.
     pub passed: u64,
+    /// The page numbers that were left of the session's span when it drew others. It uses these first.
+    pub spare: Span,
 }
 
 impl Live {
@@ -62,5 +67,31 @@ impl Live {
         if shelf.retired.push(out).is_err() {
             unreachable!()
         }
+    }
+
+    // The room has the shelf's spare page numbers for the call, and the shelf keeps those that the room had.
+    pub(crate) fn exchange_spare(&self, seat: &mut Seat<u8, View>, room: &mut Room)
+        requires seat { IsPassSeat self.now seat.old.table_id seat.old.me }
+        requires pages { room.old.pages ≡ seat.old.me.0.call.pages }
+        requires spare { HasSpareOf room.old.shelf seat.old.me.0 }
+        requires some { HasAny (spare_on room.old.shelf) }
+        ensures same { HasSameNumber seat.old seat.new }
+        ensures exchanged { HasExchanged self.now.counts seat.old.me seat.new.me room.old room.new }
+    {
+        let Some(shelf) = room.shelf.as_mut() else {
+            unreachable!()
+        };
+        mem::swap(&mut room.pages, &mut shelf.spare);
+        self.exchange_numbers(seat);
+    }
+}
+
+// Whether the shelf has spare page numbers.
+pub(crate) fn has_spare(shelf: &Option<Shelf>) -> bool
+    ensures { IsTrue result ↔ HasAny (spare_on shelf.now) }
+{
+    match shelf {
+        Some(shelf) => shelf.spare.next < shelf.spare.stop,
+        None => false,
     }
 }

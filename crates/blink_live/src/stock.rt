@@ -1,11 +1,13 @@
-//! How a session's call takes up a row that came back, and gives up the others meanwhile. How rows come back is the map's.
+//! How a session's call takes up a row that came back, or its spare page numbers, and gives up the others meanwhile. How rows come
+//! back is the map's.
 ghost use Rattle.std.specs.Prelude.{◌≡◌, ◌∷◌, ◌≤◌, ℕ, List};
 ghost use Rattle.blink_live.specs.ComingBack.{puts_back, takes_in};
 ghost use Rattle.blink_live.specs.Seats.{HasSameNumber, IsPassSeat};
+ghost use Rattle.blink_live.specs.Spares.{ExchangesNumbers, HasAny};
 ghost use Rattle.blink_live.specs.Words.{IsRowNumber};
 
 use crate::live::Live;
-use crate::rule::{PutRowsBack, TakeRowIn};
+use crate::rule::{ExchangeNumbers, PutRowsBack, TakeRowIn};
 use crate::view::View;
 use atomic_table::Seat;
 
@@ -31,5 +33,15 @@ impl Live {
         ensures back { seat.new.me ≡ (puts_back seat.old.me.0, seat.old.me.1) }
     {
         self.table.shared.load::<PutRowsBack>(seat, 0);
+    }
+
+    // The seat's call may use the spare page numbers, and those that it could use are the spare ones.
+    pub(crate) fn exchange_numbers(&self, seat: &mut Seat<u8, View>)
+        requires seat { IsPassSeat self.now seat.old.table_id seat.old.me }
+        requires some { HasAny seat.old.me.0.stock.spare }
+        ensures same { HasSameNumber seat.old seat.new }
+        ensures exchanged { ExchangesNumbers seat.old.me seat.new.me }
+    {
+        self.table.shared.load::<ExchangeNumbers>(seat, 0);
     }
 }

@@ -21,12 +21,14 @@ ghost use Rattle.blink_live.specs.Updating.{CanWrite, HasEnded, HasRowsFor, IsUn
 ghost use Rattle.blink_live.specs.Views.{CanBegin, MayChange, is_staged, knows_word, latch_number_by, no_words, stage_word};
 ghost use Rattle.blink_live.specs.Pendings.{IsWaiting};
 ghost use Rattle.blink_live.specs.AtomicSteps.{PublishesNew, PublishesPage, PublishesPrime, GoesOn};
-ghost use Rattle.blink_live.specs.Words.{BeginWith, IsRowNumber};
+ghost use Rattle.blink_live.specs.Spares.{HasAny, HasSpareOf, WritesNew};
+ghost use Rattle.blink_live.specs.Words.{AreNumbersIn, BeginWith, IsRowNumber};
 
 use crate::descent::Changed;
 use crate::live::Live;
 use crate::room::Room;
 use crate::rule::{KnowWord, LetGo, Publish, PublishNew, PublishPrime, StoreWord, TryLatch};
+use crate::shelf::has_spare;
 use crate::view::View;
 use atomic_table::Seat;
 use blink_batch::{Answer, Op};
@@ -276,7 +278,7 @@ impl Live {
         Self::keep_out(seat, room, out);
     }
 
-    // Writes the operation's new page, in the same way.
+    // Writes the operation's new page, in the same way. Its number is the first of the shelf's spare ones, or else of the room's.
     fn put_new(&self, seat: &mut Seat<u8, View>, machine: &mut Machine, room: &mut Room)
         requires under_way { (op : Op) × (first : Seat ℕ View)
             × IsUnderWay self.now op first seat.old machine.old room.old }
@@ -285,19 +287,18 @@ impl Live {
         ensures under_way { (op : Op) (first : Seat ℕ View)
             → IsUnderWay self.now op first seat.old machine.old room.old
             → IsUnderWay self.now op first seat.new machine.new room.new }
-        ensures machine { machine.new ≡ done machine.old room.old.pages.next }
+        ensures machine { (number : ℕ) × (machine.new ≡ done machine.old number) }
     {
         // Read for the proof: the room's numbers are words.
         let _stop = room.rows.stop;
         if let Some(row) = self.lend(seat, room) {
-            self.write_new(seat, machine, room.pages.next as u32, row);
+            self.write_new(seat, machine, room, row);
             self.put_rows_back(seat);
-            room.pages.next += 1;
             return;
         }
-        self.write_new(seat, machine, room.pages.next as u32, room.rows.next);
+        let row = room.rows.next;
+        self.write_new(seat, machine, room, row);
         room.rows.next += 1;
-        room.pages.next += 1;
     }
 
     // Replaces the page of this number by the operation's version, and returns the row of the version before. The new version
@@ -323,8 +324,37 @@ impl Live {
         self.publish(seat, machine, number, row)
     }
 
+    // Writes the operation's new page in the call's first row, at the first spare number, or else at the first of the room's.
+    fn write_new(&self, seat: &mut Seat<u8, View>, machine: &mut Machine, room: &mut Room, row: u64)
+        requires can { CanWrite self.now machine.old row seat.old }
+        requires needs { NeedsNew machine.old }
+        requires pages { room.old.pages ≡ seat.old.me.0.call.pages }
+        requires some { HasAny room.old.pages }
+        requires in_range { AreNumbersIn self.now.counts room.old.pages }
+        requires spare { HasSpareOf room.old.shelf seat.old.me.0 }
+        ensures same { HasSameNumber seat.old seat.new }
+        ensures written { (number : ℕ) × (machine.new ≡ done machine.old number)
+            × WritesNew machine.old number seat.old.me seat.new.me room.old room.new }
+    {
+        if has_spare(&room.shelf) {
+            self.exchange_spare(seat, room);
+            self.write_numbered(seat, machine, room.pages.next as u32, row);
+            room.pages.next += 1;
+            self.exchange_spare(seat, room);
+            return;
+        }
+        self.write_numbered(seat, machine, room.pages.next as u32, row);
+        room.pages.next += 1;
+    }
+
     // Writes the operation's new page at this number, the first of the call's page numbers. It stands in the call's first row.
-    fn write_new(&self, seat: &mut Seat<u8, View>, machine: &mut Machine, number: u32, row: u64)
+    fn write_numbered(
+        &self,
+        seat: &mut Seat<u8, View>,
+        machine: &mut Machine,
+        number: u32,
+        row: u64,
+    )
         requires can { CanWrite self.now machine.old row seat.old }
         requires needs { NeedsNew machine.old }
         requires number { IsFirst number seat.old.me.0.call.pages }

@@ -54,7 +54,7 @@ pub struct Aside {
     pub call: Span,
 }
 
-/// A session's rows that pages don't need any more, by how far they have come back.
+/// A session's rows that pages don't need any more, by how far they have come back, and the page numbers that it keeps beside.
 pub struct Stock {
     /// The rows that no seat reads. The session may write them again.
     pub free: LinkedList<u64>,
@@ -68,6 +68,8 @@ pub struct Stock {
     pub passed: u64,
     /// The session's other rows, while it writes one that came back.
     pub aside: Aside,
+    /// The page numbers that were left of the session's span when it drew others. It uses these first.
+    pub spare: Span,
 }
 
 /// What a seat has noted for a snapshot.
@@ -106,7 +108,7 @@ pub struct View {
     /// Of a session: its place, and the place's word, which isn't 0 while the session may be at an operation.
     pub place: u64,
     pub busy: u64,
-    /// Of a session: the rows that pages don't need any more.
+    /// Of a session: the rows that pages don't need any more, and the page numbers left of earlier draws.
     pub stock: Stock,
     /// What the call under way, or the last one made, may use.
     pub call: Call,

@@ -1,9 +1,11 @@
 -- What a session has of rows and page numbers.
-use Rattle.std.specs.Prelude.{ℕ, Option, Some, None}
+use Rattle.std.specs.Prelude.{ℕ, ◌-◌, ◌^◌, min, Option, Some, None}
 use Rattle.blink_live.specs.declared.shelf.Shelf.{Shelf}
 use Rattle.blink_live.specs.Allowed.{length_of}
 use Rattle.blink_live.specs.Shelves.{free_in}
+use Rattle.blink_live.specs.Spares.{spare_on}
 use Rattle.blink_map.specs.declared.map.Session.{Session}
+use Rattle.blink_map.specs.Drawing.{numbers_in}
 use Rattle.blink_map.specs.declared.stock.Stock.{Stock}
 
 -- the rows that were taken out and don't wait yet
@@ -16,10 +18,10 @@ abbrev pub waiting_in : Option Shelf → ℕ
 waiting_in None = 0
 waiting_in (Some shelf) = shelf.waiting.len
 
--- the numbers of its rows and page numbers
+-- the numbers of its rows and page numbers, as far as 64 bits tell
 abbrev pub stock_of : Session → Stock
 stock_of session = record {
-  pages = length_of session.member.pages;
+  pages = min (numbers_in session.member.pages (spare_on session.member.shelf)) (2 ^ 64 - 1);
   unwritten = length_of session.member.rows;
   free = free_in session.member.shelf;
   taken_out = taken_out_in session.member.shelf;

@@ -11,6 +11,8 @@ ghost use Rattle.blink_live.specs.Seats.{HasSameNumber, IsPassSeat};
 ghost use Rattle.blink_live.specs.Views.{is_busy, pages_of, rows_of, rows_taken, span};
 ghost use Rattle.blink_live.specs.Allowed.{length_of};
 ghost use Rattle.blink_live.specs.Shelves.{HasSpaceFor, free_in, rows_on};
+ghost use Rattle.blink_live.specs.Spares.{spare_on};
+ghost use Rattle.blink_map.specs.Drawing.{KeepsNumbers};
 ghost use Rattle.blink_map.specs.declared.map.Session.{Session};
 ghost use Rattle.blink_map.specs.declared.member.Member.{Member};
 ghost use Rattle.blink_map.specs.Changing.{HasChanged, HasComeOut, HasDrawn, HasSetOut};
@@ -219,23 +221,30 @@ impl Member {
         }
     }
 
-    // Draws page numbers, if the member has fewer than these.
+    // Draws page numbers, if the member has fewer than these in its span. What this has left goes beside, so that the draw loses none.
     fn draw_pages(&mut self, live: &Live, least: u64)
         requires its_own { IsMemberOf live.now self.old }
         requires few { least ≤ PAGE_CHUNK }
-        ensures { HasDrawn 0 least self.old self.new }
+        ensures drawn { HasDrawn 0 least self.old self.new }
+        ensures none_lost { KeepsNumbers self.old.pages (spare_on self.old.shelf)
+            self.new.pages (spare_on self.new.shelf) }
     {
         let Member {
             seat,
             rows: _,
             pages,
             place: _,
-            shelf: _,
+            shelf,
             mark: _,
         } = self;
-        if pages.len() < least {
-            if let Some(drawn) = draw_pages(live, seat, *pages, least, PAGE_CHUNK) {
+        if pages.len() >= least {
+            return;
+        }
+        if let Some(shelf) = shelf.as_mut() {
+            let drawn = draw_pages(live, seat, *pages, shelf.spare, least, PAGE_CHUNK);
+            if let Some((drawn, left)) = drawn {
                 *pages = drawn;
+                shelf.spare = left;
             }
         }
     }

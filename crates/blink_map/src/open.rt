@@ -117,6 +117,7 @@ fn shelf_with_room(alloc: Global, rows: usize, places: usize) -> Result<Shelf, A
         waiting: Vec::with_capacity(alloc, rows)?,
         before: Vec::with_capacity(alloc, places)?,
         passed: 0,
+        spare: Span { next: 1, stop: 1 },
     })
 }
 

@@ -1,10 +1,10 @@
 //! How a session's seat draws rows and page numbers from the map's pool.
-ghost use Rattle.std.specs.Prelude.{◌≡◌, ◌≢◌, ◌⊎◌, ◌+◌, ◌-◌, ◌<◌, ◌≤◌, IfNone, IfSome, IsTrue};
+ghost use Rattle.std.specs.Prelude.{◌≡◌, ◌+◌, ◌-◌, ◌<◌, ◌≤◌, IfNone, IfSome, IsTrue};
 ghost use Rattle.blink_live.specs.Allowed.{length_of};
 ghost use Rattle.blink_live.specs.Seats.{HasSameNumber, IsPassSeat};
 ghost use Rattle.blink_live.specs.Views.{has_pages, has_rows, span};
 ghost use Rattle.blink_live.specs.Words.{pool_page, pool_row};
-ghost use Rattle.blink_map.specs.Drawing.{IsPart};
+ghost use Rattle.blink_map.specs.Drawing.{IsPart, KeepsNumbers, numbers_in};
 
 use crate::common::{POOL_PAGE, POOL_ROW};
 use crate::steps::JoinPages;
@@ -41,30 +41,32 @@ pub(crate) fn draw_rows(
     None
 }
 
-/// Draws page numbers for a session's seat, which has fewer than `least`, so that it has `least` at least. Where the pool's next
-/// number follows those that the seat has, the seat keeps these. Else they are nobody's then: a call takes its numbers from one
-/// span, and another session has drawn those between. It draws none if the pool has too few.
+/// Draws page numbers for a session's seat, which has fewer than `least`, so that it has `least` at least, and returns them and
+/// those beside. Where the pool's next number follows those that the seat has, these are one span. Else another session has drawn
+/// those between: the seat keeps what it had beside, and uses it first. So it has none beside where it draws again. It draws none
+/// if the pool has too few.
 pub(crate) fn draw_pages(
     live: &Live,
     seat: &mut Seat<u8, View>,
     has: Span,
+    spare: Span,
     least: u64,
     most: u64,
-) -> Option<Span>
+) -> Option<(Span, Span)>
     requires seat { IsPassSeat live.now seat.old.table_id seat.old.me }
     requires common { 1 ≤ live.now.places }
     requires counts { (1 ≤ least) × (least ≤ most) }
     requires has { has ≡ seat.old.me.0.pages }
+    requires spare { spare ≡ seat.old.me.0.stock.spare }
     requires in_order { has.next ≤ has.stop }
     requires short { length_of has < least }
     ensures same { HasSameNumber seat.old seat.new }
-    ensures drawn { IfSome result (λ pages.
-        seat.new.me ≡ (has_pages seat.old.me.0 pages, seat.old.me.1)) }
-    ensures enough { IfSome result (λ pages. pages.next + least ≤ pages.stop) }
-    ensures none_lost { IfSome result
-        (λ pages. (pages.next ≡ has.next) ⊎ (pages.next ≢ has.stop)) }
-    ensures part { IfSome result (λ pages. IsPart live.now.counts.numbers live.now.places
-        least (length_of pages - length_of has)) }
+    ensures drawn { IfSome result (λ drawn.
+        seat.new.me ≡ (has_pages seat.old.me.0 drawn.0 drawn.1, seat.old.me.1)) }
+    ensures enough { IfSome result (λ drawn. drawn.0.next + least ≤ drawn.0.stop) }
+    ensures none_lost { IfSome result (λ drawn. KeepsNumbers has spare drawn.0 drawn.1) }
+    ensures part { IfSome result (λ drawn. IsPart live.now.counts.numbers live.now.places
+        least (numbers_in drawn.0 drawn.1 - numbers_in has spare)) }
     ensures none { IfNone result (seat.new.me ≡ seat.old.me) }
 {
     // The range ends for the proof alone, which knows no bound of the tries.
@@ -73,16 +75,20 @@ pub(crate) fn draw_pages(
         if left.next == has.stop {
             let more = part_of(live, left, least - has.len(), most)?;
             if join_pages(live, seat, more.next, more.stop) {
-                return Some(Span {
+                let joined = Span {
                     next: has.next,
                     stop: more.stop,
-                });
+                };
+                return Some((joined, spare));
             }
             continue;
         }
+        if spare.next < spare.stop {
+            return None;
+        }
         let drawn = part_of(live, left, least, most)?;
         if exchange_pages(live, seat, drawn.next, drawn.stop) {
-            return Some(drawn);
+            return Some((drawn, has));
         }
     }
     None
@@ -153,14 +159,15 @@ pub(crate) fn pages_in_pool(live: &Live) -> Span
 }
 
 /// Draws the page numbers from `next` to `stop` for a session's seat, if `next` is the pool's next number, and returns whether it
-/// is. The numbers that the seat had are nobody's then.
+/// is. The seat keeps the numbers that it had beside.
 pub(crate) fn exchange_pages(live: &Live, seat: &mut Seat<u8, View>, next: u64, stop: u64) -> bool
     requires seat { IsPassSeat live.now seat.old.table_id seat.old.me }
     requires common { 1 ≤ live.now.places }
     requires pages { (next ≤ stop) × (stop ≤ live.now.counts.numbers) }
     ensures same { HasSameNumber seat.old seat.new }
     ensures got { IsTrue result
-        → seat.new.me ≡ (has_pages seat.old.me.0 (span next stop), seat.old.me.1) }
+        → seat.new.me
+        ≡ (has_pages seat.old.me.0 (span next stop) seat.old.me.0.pages, seat.old.me.1) }
     ensures lost { ¬ IsTrue result → seat.new.me ≡ seat.old.me }
 {
     let word = page_word(live);
@@ -180,7 +187,11 @@ pub(crate) fn join_pages(live: &Live, seat: &mut Seat<u8, View>, next: u64, stop
     requires in_order { seat.old.me.0.pages.next ≤ next }
     ensures same { HasSameNumber seat.old seat.new }
     ensures got { IsTrue result
-        → seat.new.me ≡ (has_pages seat.old.me.0 (span seat.old.me.0.pages.next stop), seat.old.me.1) }
+        → seat.new.me ≡ (
+          has_pages seat.old.me.0 (span seat.old.me.0.pages.next stop)
+              seat.old.me.0.stock.spare,
+          seat.old.me.1,
+        ) }
     ensures lost { ¬ IsTrue result → seat.new.me ≡ seat.old.me }
 {
     let word = page_word(live);

@@ -7,7 +7,7 @@ use crate::map::{Map, Session};
 /// The rows and page numbers that a session has. They are its own until it leaves; then they stay at its place.
 #[derive(Clone, Copy, Debug, PartialEq, Eq)]
 pub struct Stock {
-    /// Page numbers that the session has drawn and not used.
+    /// Page numbers that the session has drawn and not used, in its span and beside.
     pub pages: u64,
     /// Rows that it has drawn and not written.
     pub unwritten: u64,
@@ -25,12 +25,17 @@ impl Map {
         ensures { result ≡ stock_of session.now }
     {
         let member = &session.member;
-        let (free, taken_out, waiting) = match &member.shelf {
-            Some(shelf) => (shelf.free.len(), shelf.retired.len(), shelf.waiting.len()),
-            None => (0, 0, 0),
+        let (free, taken_out, waiting, spare) = match &member.shelf {
+            Some(shelf) => (
+                shelf.free.len(),
+                shelf.retired.len(),
+                shelf.waiting.len(),
+                shelf.spare.len(),
+            ),
+            None => (0, 0, 0, 0),
         };
         Stock {
-            pages: member.pages.len(),
+            pages: member.pages.len().saturating_add(spare),
             unwritten: member.rows.len(),
             free: free as u64,
             taken_out: taken_out as u64,

@@ -12,6 +12,7 @@ pub mod MapsCross
 pub mod MapsStay
 pub mod SessionsCross
 pub mod SessionsGoOn
+pub mod SessionsStay
 pub mod WaitsGoOn
 pub mod SnapshotsAreGiven
 pub mod AnswersOfPuts

@@ -14,9 +14,9 @@ use std::thread;
 #[derive(Clone, Copy, Debug, PartialEq, Eq, Hash)]
 pub struct Room {
     /// Page numbers. A split of a page takes one. An insertion has to have 22 when it begins, and uses none mostly. A session with
-    /// fewer draws others from the pool, up to 512, and keeps those that it had left where the pool's next ones follow them, as they do while
-    /// nobody else draws; else it loses them, up to 21 at a draw. So splits by one session take 19,979 of 20,000 numbers, 979 of 1,000, and
-    /// 179 of 200 (measured); where several draw by turns from a small pool, much less: have some thousands.
+    /// fewer draws others from the pool, up to 512, and keeps those that it had left, which it uses first. So no number is lost: when all
+    /// is full, each session has at most 21 left, and the pool as many. Splits by one session take 19,979 of 20,000 numbers, 979 of 1,000,
+    /// and 179 of 200 (measured).
     pub pages: u32,
     /// Rows, of 560 bytes. Each write of a page takes one. An insertion has to have 44 when it begins, and writes one page mostly;
     /// a deletion, a replacement or an exchange has to have one. The row that a write replaces comes back to its session, once

@@ -199,6 +199,22 @@ fn one_session_uses_nearly_all_page_numbers() {
     }
 }
 
+// Sessions draw by turns from one pool. Each number that no page has is a session's still or the pool's, and neither has 22.
+#[test]
+fn sessions_that_draw_by_turns_lose_no_page_number() {
+    for (pages, count) in [(3_000, 8), (20_000, 256)] {
+        let map = map_over(&Index::new(4).unwrap(), pages, 2 * pages + 300 * count, count);
+        let mut sessions: Vec<Session> = (0..count).map(|_| map.session().unwrap()).collect();
+        fill(&mut sessions);
+        let kept: Vec<u64> = sessions.iter_mut().map(|session| session.reserve().pages).collect();
+        let pool = map.room().pages;
+        assert!(pool < 22 && kept.iter().all(|&left| left < 22), "{pool} {kept:?}");
+        drop(sessions);
+        let used = u64::from(map.close().unwrap().pages()) - 1;
+        assert_eq!(used + pool + kept.iter().sum::<u64>(), u64::from(pages));
+    }
+}
+
 // The first insertion has all rows, and the fifth splits the leaf: no insertion has room any more. A row comes back for each put.
 #[test]
 fn a_full_map_takes_puts_of_keys_that_are_there() {

@@ -34,6 +34,7 @@ use Rattle.blink_live.proofs.reuse.ReuseStaysSafe.{hand_stays, reuse_stays, same
 use Rattle.blink_live.proofs.table.AccountsStay.{accounts_stay}
 use Rattle.blink_live.proofs.table.OthersKnowTheSame.{LeavesOthers, RowStays, page_word_still, seat_reads_still}
 use Rattle.blink_live.proofs.table.StoresKeepTable.{row_stays, call_kept, IsStored, prime_still, store_keeps}
+use Rattle.blink_live.proofs.table.SparesOfSeats.{spare_still}
 
 -- a latch word of 0 says that nobody has the latch
 pub nobody_has : (owners : Owners) (holder : Option ℕ) → ((seat : ℕ) → holder ≡ Some seat → 1 ≤ owners.latch_number seat) → latch_word owners holder ≡ 0 → holder ≡ None
@@ -92,6 +93,7 @@ module _ (plan : Plan) (s : State ℕ View) (tree_state : TreeState) (h : IsTabl
         rows = known.rows;
         numbers = record { in_range = known.numbers.in_range; own = known.numbers.own; free = known.numbers.free };
         for_call = call_kept plan h.owners s.words words stays tree_state then (suc id) v.call v.rows.next v.pages.next (λ n own free. free) known.for_call;
+        spare = spare_still plan h.owners h.owners tree_state then (suc id) v.stock.spare v.pages.next v.call.pages known.spare (λ n own. own) (λ n free. free);
         share = known.share;
         saw = known.saw;
         heard = known.heard;

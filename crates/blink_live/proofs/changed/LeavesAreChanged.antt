@@ -24,8 +24,8 @@ use Rattle.blink_live.specs.ComingBack.{puts_back}
 use Rattle.blink_live.specs.Seats.{HasSameNumber, IsPassSeat, IsSameSeat, ReadsPage}
 use Rattle.blink_live.specs.Shelves.{IsLent, IsSameBesideShelf, IsShelved, IsShelvedBut, free_in, stock_of}
 use Rattle.blink_live.specs.Straight.{HasMet, IsEditOf, IsSplice, IsSpot, IsToSplit, IsToWrite, Makes, at_leaf, holding, leaving}
-use Rattle.blink_live.specs.Updating.{CanWrite, HasLeft, IsUnderWay, IsUpdating}
-use Rattle.blink_live.specs.Views.{IsCommon, SeatState, for_call, no_aside, takes_out}
+use Rattle.blink_live.specs.Updating.{CanWrite, HasLeft, IsUnderWay, IsUpdating, UsesSpareFirst}
+use Rattle.blink_live.specs.Views.{IsCommon, IsOwned, SeatState, for_call, no_aside, takes_out}
 use Rattle.blink_live.specs.Words.{IsRowNumber}
 use Rattle.blink_live.proofs.changed.CallsWrite.{writes_lent, writes_own}
 use Rattle.blink_live.proofs.changed.UpdatesGoOn as on
@@ -41,6 +41,7 @@ stays {live} {op} {first} {seat} {m} {room} is next same =
       latch_number = is.latch_number;
       shelved = subst (λ (x : SeatState). IsShelved room.shelf x.0) (sym same_view) is.shelved;
       left = subst (λ (x : SeatState). HasLeft room.shelf (for_call first.me.0 op).call x.0.call m) (sym same_view) is.left;
+      spare_first = subst (λ (x : SeatState). UsesSpareFirst first.me.0 x.0) (sym same_view) is.spare_first;
     }
 
 same_machine : {live : Live} {op : Op} {first seat : Seat ℕ View} {m : PlainMachine} {room : Room} → IsUnderWay live op first seat m room → (other : PlainMachine) → m ≡ other → IsUnderWay live op first seat other room
@@ -154,7 +155,7 @@ module _ {live : Live} {op : Op} {descent : Descent} {first seat : Seat ℕ View
 
 -- the shelf lacks the row that was taken out
 pub shelved_but : (shelf : Option Shelf) (out : ℕ) (v w : View) → w.plan ≡ v.plan → w.stock ≡ takes_out out v.stock → IsShelved shelf v → IsShelvedBut out shelf w
-shelved_but None out v w plan stock is = tt
+shelved_but None out v w plan stock is = subst IsOwned (sym plan) is
 shelved_but (Some shelf) out v w plan stock is = (subst IsCommon (sym plan) is.0, stock ∙ ap (takes_out out) is.1)
 
 -- also where it had lent one

@@ -8,8 +8,9 @@ use Rattle.blink_live.specs.declared.room.Room.{Room}
 use Rattle.blink_live.specs.declared.view.Call.{Call}
 use Rattle.blink_live.specs.declared.view.View.{View}
 use Rattle.blink_live.specs.Seats.{HasSameNumber}
+use Rattle.blink_live.specs.Spares.{HasAny}
 use Rattle.blink_live.specs.Updating.{CanUpdate, HasDecided, HasLeft, IsUnderWay, IsUpdating, decided, not_yet}
-use Rattle.blink_live.specs.Views.{SeatState, for_call, is_busy}
+use Rattle.blink_live.specs.Views.{IsCommon, SeatState, for_call, is_busy}
 use Rattle.blink_live.proofs.changed.RowsAreLent.{shelved_so}
 
 -- the seat with another mark
@@ -55,4 +56,5 @@ module _ (live : Live) (op : Op) (first seat : Seat ℕ View) (m : PlainMachine)
     latch_number = is.latch_number;
     shelved = shelved_so room.shelf seat.me.0 then.me.0 (ap (λ (x : SeatState). x.0.plan) now) (ap (λ (x : SeatState). x.0.stock) now) is.shelved;
     left = subst (λ (c : Call). HasLeft room.shelf (for_call first.me.0 op).call c m) (ap (λ (x : SeatState). x.0.call) (sym now)) is.left;
+    spare_first = λ common some. let was = is.spare_first (subst IsCommon (ap (λ (x : SeatState). x.0.plan) now) common) (subst HasAny (ap (λ (x : SeatState). x.0.stock.spare) now) some) in (ap (λ (x : SeatState). x.0.call.pages.next) now ∙ was.0, was.1);
   }

@@ -20,6 +20,7 @@ use Rattle.blink_live.proofs.table.LooksStay.{nothing_noted}
 use Rattle.blink_live.proofs.table.AccountsStay.{accounts_stay, authors_of_prefix}
 use Rattle.blink_live.proofs.table.OthersKnowTheSame.{LeavesOthers, RowStays, page_word_still}
 use Rattle.blink_live.proofs.table.StoresKeepTable.{call_kept, prime_still, store_keeps}
+use Rattle.blink_live.proofs.table.SparesOfSeats.{spare_still}
 
 module _ (plan : Plan) (s : State ℕ View) (tree_state : TreeState) (h : IsTableAt plan s tree_state) (id x : ℕ) (v : View) (at : get_elem? s.views id ≡ some v) (role : v.role ≡ Pass) (common : IsCommon plan) (some_number : 1 ≤ plan.counts.numbers)
     (idle_or_busy : (m : PlainMachine) → v.operation ≡ Some m → 1 ≤ x) where
@@ -78,6 +79,7 @@ module _ (plan : Plan) (s : State ℕ View) (tree_state : TreeState) (h : IsTabl
     rows = known.rows;
     numbers = record { in_range = known.numbers.in_range; own = known.numbers.own; free = known.numbers.free };
     for_call = call_kept plan h.owners s.words words stays tree_state tree_state (suc id) v.call v.rows.next v.pages.next (λ n own free. free) known.for_call;
+    spare = spare_still plan h.owners h.owners tree_state tree_state (suc id) v.stock.spare v.pages.next v.call.pages known.spare (λ n own. own) (λ n none. none);
     share = known.share;
     saw = known.saw;
     heard = known.heard;

@@ -17,15 +17,16 @@ use Rattle.blink_live.specs.declared.view.View.{View}
 use Rattle.blink_live.specs.AtomicSteps.{Draws, draws_pages, draws_rows}
 use Rattle.blink_live.specs.Reuse.{IsAtHand, IsReuseSafe}
 use Rattle.blink_live.specs.Accounts.{AreAccounts}
-use Rattle.blink_live.specs.Rule.{latch_word, HasNumbers, HasRows, Owners, PageWordIs, IsInRole, Knows, IsTableAt, IsTable}
-use Rattle.blink_live.specs.Views.{IsCommon, SeatState, has_pages, has_rows, latch_in, span}
+use Rattle.blink_live.specs.Rule.{latch_word, HasNumbers, HasRows, HasSpare, Owners, PageWordIs, IsInRole, Knows, IsTableAt, IsTable}
+use Rattle.blink_live.specs.Views.{IsCommon, SeatState, has_pages, has_rows, latch_in, no_call, span}
 use Rattle.blink_live.specs.Words.{place_word, pool_page, pool_row, row_start, word_count}
 use Rattle.blink_live.proofs.table.CallsOfSeats.{nothing_for_call}
-use Rattle.blink_live.proofs.reuse.ReuseStaysSafe.{reuse_stays, same_reads}
+use Rattle.blink_live.proofs.reuse.ReuseStaysSafe.{reuse_beside, reuse_stays, same_reads}
 use Rattle.blink_live.proofs.table.AccountsStay.{accounts_stay}
 use Rattle.blink_live.proofs.table.OthersKnowTheSame.{LeavesOthers, RowStays, page_word_still, seat_reads_still}
 use Rattle.blink_live.proofs.table.OwnersInRange.{ranged, ranged_in, ranged_out}
 use Rattle.blink_live.proofs.table.StoresKeepTable.{prime_still, store_keeps}
+use Rattle.blink_live.proofs.table.SparesOfSeats.{spare_beside}
 
 -- in a common table a latch number doesn't depend on rows
 -- the latch words are those of the same numbers
@@ -131,6 +132,7 @@ module _ (plan : Plan) (s : State ℕ View) (tree_state : TreeState) (h : IsTabl
       };
       numbers = record { in_range = known.numbers.in_range; own = known.numbers.own; free = known.numbers.free };
       for_call = nothing_for_call plan row_owners (words 1 (omega arith) (omega arith)) tree_state (suc id) old v.pages.next pool_rows.in_range.0 known.numbers.in_range.0 some_number;
+      spare = spare_beside plan h.owners row_owners tree_state tree_state (suc id) v.stock.spare v.pages.next v.call.pages known.spare v.pages.next (span 1 1) (omega arith) (λ n within is. absurd (omega (arith, is))) (λ n within own. own) (λ n within own none. none);
       share = λ key has. let own = known.share key has in record { own = own.own; kept = own.kept; changes = own.changes };
       saw = known.saw;
       heard = known.heard;
@@ -194,12 +196,34 @@ module _ (plan : Plan) (s : State ℕ View) (tree_state : TreeState) (h : IsTabl
       named = λ n row least few unowned is. (sym (before 2 (omega arith) (omega arith) n (omega (arith, few))) ∙ is, refl);
     }
 
-    no_call_rows : (seat : ℕ) (u : View) (pages : Span) (row : ℕ) → IsAtHand (has_pages u pages) row → IsAtHand u row ⊎ (h.owners.row row ≢ suc seat)
-    no_call_rows seat u pages row hand = ⊎_elim (λ (t : (u.rows.next ≤ row) × (row < u.rows.stop)). inl (inl t)) (λ (t : (1 ≤ row) × (row < 1)). absurd (omega (arith, t))) hand
+    no_call_rows : (seat : ℕ) (u : View) (pages spare : Span) (row : ℕ) → IsAtHand (has_pages u pages spare) row → IsAtHand u row ⊎ (h.owners.row row ≢ suc seat)
+    no_call_rows seat u pages spare row hand = ⊎_elim (λ (t : (u.rows.next ≤ row) × (row < u.rows.stop)). inl (inl t)) (λ (t : (1 ≤ row) × (row < 1)). absurd (omega (arith, t))) hand
 
-    -- the seat has these numbers then: those from the pool on, and before them those that it had
-    module _ (low : ℕ) (least : 1 ≤ low) (has : (number : ℕ) → low ≤ number → number < old → (h.owners.page number ≡ suc id) × (tree_state.pages number ≡ None)) where
-      pages_knows : Knows plan page_owners (words 2 (omega arith) (omega arith)) tree_state h.log id (has_pages v (span low new))
+    -- what the seat had it has
+    own_still : (number : ℕ) → h.owners.page number ≡ suc id → page_owners.page number ≡ suc id
+    own_still number its = let later = kept.0 in page_else number (λ e. let one : suc id ≡ suc 0 = sym its ∙ e in omega (arith, one, later)) ∙ its
+
+    -- those that it had stand before the pool's
+    beside : HasSpare plan page_owners tree_state (suc id) v.pages old no_call.pages
+    beside = record {
+      numbers = record { in_range = known.numbers.in_range; own = λ number low high. own_still number (known.numbers.own number low high); free = known.numbers.free };
+      sessions = λ some. let later = kept.0 in omega (arith, later);
+      before = λ some. dite (dec_le v.pages.stop old) (λ before. before) (λ after.
+          let range = known.numbers.in_range.1 in
+          let later = kept.0 in
+          dite (dec_le old v.pages.next)
+          (λ inside. let one : suc id ≡ suc 0 = sym (known.numbers.own v.pages.next (omega arith) some) ∙ pool_pages.own v.pages.next inside (omega (arith, some, range)) in absurd (omega (arith, one, later)))
+          (λ across. let one : suc id ≡ suc 0 = sym (known.numbers.own old (omega (arith, across)) (omega (arith, after))) ∙ pool_pages.own old (omega arith) (omega (arith, after, range)) in absurd (omega (arith, one, later))));
+      apart = λ number within within_call. absurd (omega (arith, within_call));
+    }
+
+    -- and those that were beside are still
+    still_beside : HasSpare plan page_owners tree_state (suc id) v.stock.spare v.pages.next no_call.pages
+    still_beside = spare_beside plan h.owners page_owners tree_state tree_state (suc id) v.stock.spare v.pages.next v.call.pages known.spare v.pages.next no_call.pages (omega arith) (λ n within is. absurd (omega (arith, is))) (λ n within. own_still n) (λ n within own none. none)
+
+    -- the seat has these numbers then: those from the pool on, and before them those that it had; and these are beside
+    module _ (low : ℕ) (least : 1 ≤ low) (has : (number : ℕ) → low ≤ number → number < old → (h.owners.page number ≡ suc id) × (tree_state.pages number ≡ None)) (spare : Span) (its_spare : HasSpare plan page_owners tree_state (suc id) spare low no_call.pages) where
+      pages_knows : Knows plan page_owners (words 2 (omega arith) (omega arith)) tree_state h.log id (has_pages v (span low new) spare)
       pages_knows = record {
         same_plan = known.same_plan;
         operation = known.operation;
@@ -209,23 +233,24 @@ module _ (plan : Plan) (s : State ℕ View) (tree_state : TreeState) (h : IsTabl
         numbers = record {
           in_range = (least, end);
           own = λ number from high. dite (dec_le old number) (λ drawn. ranged_in old new (suc id) h.owners.page number drawn high)
-              (λ had. let its = has number from (omega (arith, had)) in let later = kept.0 in page_else number (λ e. let one : suc id ≡ suc 0 = sym its.0 ∙ e in omega (arith, one, later)) ∙ its.0);
+              (λ had. own_still number (has number from (omega (arith, had))).0);
           free = λ number from high. dite (dec_le old number) (λ drawn. pool_pages.free number drawn (omega (arith, high, end))) (λ had. (has number from (omega (arith, had))).1);
         };
         for_call = nothing_for_call plan page_owners (words 2 (omega arith) (omega arith)) tree_state (suc id) v.rows.next low known.rows.in_range.0 least some_number;
+        spare = its_spare;
         share = λ key has. let own = known.share key has in record { own = own.own; kept = own.kept; changes = own.changes };
         saw = known.saw;
         heard = known.heard;
-        in_role = subst (IsInRole plan page_owners h.log id (has_pages v (span low new))) (sym role) kept;
+        in_role = subst (IsInRole plan page_owners h.log id (has_pages v (span low new) spare)) (sym role) kept;
         placed = λ is_common is. let p = known.placed is_common is in record { in_range = p.in_range; own = p.own; word = other_place 2 (omega arith) (omega arith) v.place ∙ p.word; busy = p.busy };
         nothing = λ is_common dealt back is. absurd (let e : Pass ≡ Keeper dealt back = sym role ∙ is in cc);
         places_left = λ dealt back is. absurd (let e : Pass ≡ Keeper dealt back = sym role ∙ is in cc);
       }
 
-      pages_drawn : IsTable plan record { words = words 2 (omega arith) (omega arith); homes = s.homes; views = set s.views id (has_pages v (span low new)) }
-      pages_drawn = draw_keeps 2 (omega arith) (omega arith) page_owners (has_pages v (span low new)) pages_leave refl refl refl (accounts_stay plan h.owners.place h.log s.views id v (has_pages v (span low new)) at (h.accounted common) refl ((h.accounted common).saw_own id v at))
-          (reuse_stays plan h.owners.row s.words s.views id v (has_pages v (span low new)) at (h.reuse common) page_owners.row (words 2 (omega arith) (omega arith)) (λ row is. is) (λ seat r later is apart. is)
-          (λ n few. before 2 (omega arith) (omega arith) n (omega (arith, few))) refl (no_call_rows id v (span low new)) (same_reads plan h.owners.row s.words s.views id v (has_pages v (span low new)) at (h.reuse common) refl refl refl refl refl)) pages_knows
+      pages_drawn : IsTable plan record { words = words 2 (omega arith) (omega arith); homes = s.homes; views = set s.views id (has_pages v (span low new) spare) }
+      pages_drawn = draw_keeps 2 (omega arith) (omega arith) page_owners (has_pages v (span low new) spare) pages_leave refl refl refl (accounts_stay plan h.owners.place h.log s.views id v (has_pages v (span low new) spare) at (h.accounted common) refl ((h.accounted common).saw_own id v at))
+          (reuse_beside plan h.owners.row s.words s.views id v (has_pages v (span low new) spare) at (h.reuse common) page_owners.row (words 2 (omega arith) (omega arith)) (λ row is. is) (λ seat r later is apart. is)
+          (λ n few. before 2 (omega arith) (omega arith) n (omega (arith, few))) spare refl (no_call_rows id v (span low new) spare) (same_reads plan h.owners.row s.words s.views id v (has_pages v (span low new) spare) at (h.reuse common) refl refl refl refl refl)) pages_knows
 
 -- ---- the steps
 
@@ -255,10 +280,11 @@ pages_are_drawn plan slots id old new me role common some_number further end s t
     let found : ℕ = slice_index s.words (pool_page plan.counts) in
     exchanged found old new (λ (k : ℕ). (w : View) × (a : Act ℕ) × Valid s.homes me.1 a × IsTable plan (stepped s (pool_page plan.counts) k id me.1 w a) × draws_pages (step slots (pool_page plan.counts) old new none) me found (w, carried_after me.1 a))
     (λ hit. (
-      has_pages me.0 (span old new),
+      has_pages me.0 (span old new) me.0.pages,
       keeps,
       tt,
-      pages_drawn plan s table.0 table.1 id old new me.0 at role common some_number further hit end old (subst (λ (n : ℕ). 1 ≤ n) hit (table.1.pool common).pages.in_range.0) (λ number from below. absurd (omega (arith, from, below))),
+      pages_drawn plan s table.0 table.1 id old new me.0 at role common some_number further hit end old (subst (λ (n : ℕ). 1 ≤ n) hit (table.1.pool common).pages.in_range.0) (λ number from below. absurd (omega (arith, from, below))) me.0.pages
+          (beside plan s table.0 table.1 id old new me.0 at role common some_number further hit end),
       record { got = λ is. refl; lost = λ other. absurd (other hit) },
     ))
     (λ miss. (
@@ -271,17 +297,18 @@ pages_are_drawn plan slots id old new me role common some_number further end s t
 
 -- the numbers drawn follow those that the seat has
 pub pages_are_joined : (plan : Plan) (slots id old new : ℕ) (me : SeatState) → me.0.role ≡ Pass → IsCommon plan → 1 ≤ plan.counts.numbers → old ≤ new → new ≤ plan.counts.numbers → me.0.pages.stop ≡ old
-    → Allows (IsTable plan) slots id me (pool_page plan.counts) (λ n. either (eqb n old) new n) (Draws (has_pages me.0 (span me.0.pages.next new)) old me)
+    → Allows (IsTable plan) slots id me (pool_page plan.counts) (λ n. either (eqb n old) new n) (Draws (has_pages me.0 (span me.0.pages.next new) me.0.stock.spare) old me)
 pages_are_joined plan slots id old new me role common some_number further end follows s table homes at small =
     let found : ℕ = slice_index s.words (pool_page plan.counts) in
     let known : Knows plan table.1.owners s.words table.0 table.1.log id me.0 = table.1.views id me.0 at in
-    exchanged found old new (λ (k : ℕ). (w : View) × (a : Act ℕ) × Valid s.homes me.1 a × IsTable plan (stepped s (pool_page plan.counts) k id me.1 w a) × Draws (has_pages me.0 (span me.0.pages.next new)) old me found (w, carried_after me.1 a))
+    exchanged found old new (λ (k : ℕ). (w : View) × (a : Act ℕ) × Valid s.homes me.1 a × IsTable plan (stepped s (pool_page plan.counts) k id me.1 w a) × Draws (has_pages me.0 (span me.0.pages.next new) me.0.stock.spare) old me found (w, carried_after me.1 a))
     (λ hit. (
-      has_pages me.0 (span me.0.pages.next new),
+      has_pages me.0 (span me.0.pages.next new) me.0.stock.spare,
       keeps,
       tt,
       pages_drawn plan s table.0 table.1 id old new me.0 at role common some_number further hit end me.0.pages.next known.numbers.in_range.0
-          (λ number from below. (known.numbers.own number from (omega (arith, below, follows)), known.numbers.free number from (omega (arith, below, follows)))),
+          (λ number from below. (known.numbers.own number from (omega (arith, below, follows)), known.numbers.free number from (omega (arith, below, follows)))) me.0.stock.spare
+          (still_beside plan s table.0 table.1 id old new me.0 at role common some_number further hit end),
       record { got = λ is. refl; lost = λ other. absurd (other hit) },
     ))
     (λ miss. (

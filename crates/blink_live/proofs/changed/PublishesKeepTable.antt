@@ -27,7 +27,7 @@ use Rattle.blink_live.specs.Changes.{put, after, states_of, changes_made, Learns
 use Rattle.blink_live.specs.AtomicSteps.{AnswersInOrder, Decided, CanGoOn, EndsWithOwn, PublishesPage, PublishesNew, PublishesPrime, publishes_page, publishes_new, publishes_prime}
 use Rattle.blink_live.specs.Looks.{IsLeafInChain}
 use Rattle.blink_live.specs.Reuse.{IsAtHand, IsReuseSafe, IsWithin}
-use Rattle.blink_live.specs.Rule.{IsOwnKey, IsShare, HasNumbers, Knows, IsTableAt, IsTable, PageWordIs}
+use Rattle.blink_live.specs.Rule.{IsOwnKey, IsShare, HasNumbers, HasSpare, Knows, IsTableAt, IsTable, PageWordIs}
 use Rattle.blink_live.specs.Views.{IsCommon, IsOwned, MayChange, SeatState, KnowsItsOwn, adds, span, changed_by, publishes, takes_out}
 use Rattle.blink_live.specs.Words.{BeginWith}
 use Rattle.blink_live.proofs.changed.ChangesAreTheMaps.{all_by_author, states_of-append, none_of_other, other_stays, map_is_changed}
@@ -39,6 +39,7 @@ use Rattle.blink_live.proofs.table.MapsWithOneChange.{put_here, put_else}
 use Rattle.blink_live.proofs.table.NextPageIsThere.{EndsAt, next_page_is_there}
 use Rattle.blink_live.proofs.table.SeatsThatStay.{views_stay}
 use Rattle.blink_live.proofs.table.SharesAreKnown.{share_is_known}
+use Rattle.blink_live.proofs.table.SparesOfSeats.{spare_beside, spare_still}
 
 -- no seat has seen a change that isn't in this list
 abbrev pub IsLongest : List View → List Change → Type 0
@@ -244,8 +245,9 @@ module _ (plan : Plan) (s : State ℕ View) (tree_state : TreeState) (h : IsTabl
       → ((n : ℕ) → IsLeafInChain tree_state.fan tree_state.prime tree_state.pages n → IsLeafInChain after_write.fan after_write.prime after_write.pages n)
       → ((n : ℕ) → h.owners.page n ≢ suc id → tree_state.pages n ≡ None → n ≢ number)
       → HasNumbers plan h.owners after_write (suc id) v.pages → HasNumbers plan h.owners after_write (suc id) pages → pages.stop ≤ v.pages.next
+      → stock.spare ≡ v.stock.spare → HasSpare plan h.owners after_write (suc id) v.stock.spare v.pages.next pages
       → IsStepOfTree plan s tree_state after_write h id number way v after_it (page_words page) pages stock at role
-  tree_written invariant places in_chain apart own_free call_free call_before = record {
+  tree_written invariant places in_chain apart own_free call_free call_before same_spare spare_free = record {
     same_fan = refl;
     same_holder = λ n. refl;
     own = put_here tree_state.machines id (goes_on after_it after_it.state);
@@ -261,6 +263,8 @@ module _ (plan : Plan) (s : State ℕ View) (tree_state : TreeState) (h : IsTabl
     own_free = own_free;
     call_free = call_free;
     call_before = call_before;
+    same_spare = same_spare;
+    spare_free = spare_free;
     no_other_page = λ n beyond. free_else n (λ same. omega (arith, same, beyond, in_range)) (h.no_other_page n beyond);
     in_chain = in_chain;
   }
@@ -298,7 +302,8 @@ page_becomes_published plan s table id number me m at role at_m fits needs some_
     (leaves_stay tree_state then id m after_it h.invariant invariant its workers places (λ n unlinked. absurd (none_after_write m number n needs unlinked))) (λ n not_own none_there. differs n none_there)
     (numbers_else plan s tree_state h id number way me.0 after_it page me.0.call.pages out at role some_number in_range me.0.pages (λ n low high. differs n (known.numbers.free n low high)) known.numbers)
     (numbers_else plan s tree_state h id number way me.0 after_it page me.0.call.pages out at role some_number in_range me.0.call.pages (λ n low high. differs n (known.for_call.numbers.free n low high)) known.for_call.numbers)
-    known.for_call.before.1 in
+    known.for_call.before.1 refl (spare_beside plan h.owners h.owners tree_state then (suc id) me.0.stock.spare me.0.pages.next me.0.call.pages known.spare me.0.pages.next me.0.call.pages (omega arith) (λ n within is. is) (λ n within own. own)
+    (λ n within own none. put_else tree_state.pages number n (Some page) (differs n none) ∙ none)) in
     becomes_published plan s tree_state then h id number (kinds.WritePage number) me.0.call.pages out me m after_it (page_words page) at role (m, at_m) its fits stepped tree in_range room is_row may
     (λ w reads its_role busy place look stock rows call common. page_is_safe plan s tree_state h id number me.0.call.rows.next me.0 w at (h.reuse common) in_range (known.for_call.first_own room).1 reads its_role busy place look (inr (omega arith, room)) (rows_after h.owners.row id me.0 w rows call)
     (subst (PageWordIs plan h.owners s.words (slice_index s.words number)) well.there (h.pages number some_number in_range)).0 stock)
@@ -354,7 +359,8 @@ new_becomes_published plan s table id me m at role at_m fits needs number_left r
     (numbers_else plan s tree_state h id number way me.0 after_it page rest me.0.stock at role some_number in_range me.0.pages (λ n low high same. omega (arith, low, same, before, number_left)) known.numbers)
     (numbers_else plan s tree_state h id number way me.0 after_it page rest me.0.stock at role some_number in_range rest (λ n low high same. omega (arith, low, same))
     (record { in_range = (omega arith, last); own = λ n low high. numbers.own n (omega (arith, low)) high; free = λ n low high. numbers.free n (omega (arith, low)) high }))
-    before in
+    before refl (spare_beside plan h.owners h.owners tree_state then (suc id) me.0.stock.spare me.0.pages.next me.0.call.pages known.spare me.0.pages.next rest (omega arith) (λ n within is. (omega (arith, is), is.1)) (λ n within own. own)
+    (λ n within own none. put_else tree_state.pages number n (Some page) (λ same. known.spare.apart n within (omega (arith, same), omega (arith, same, number_left))) ∙ none)) in
     becomes_published plan s tree_state then h id number (kinds.WritePage number) rest me.0.stock me m after_it (page_words page) at role (m, at_m) its fits stepped tree in_range room is_row may
     (λ w reads its_role busy place look stock rows call common. new_page_is_safe plan s tree_state h id number me.0.call.rows.next me.0 w at (h.reuse common) in_range (known.for_call.first_own room).1 reads its_role busy place look (inr (omega arith, room)) (rows_after h.owners.row id me.0 w rows call) stock)
 
@@ -412,6 +418,8 @@ prime_becomes_published plan s table id me m prime at role at_m fits needs out s
       own_free = record { in_range = known.numbers.in_range; own = known.numbers.own; free = known.numbers.free };
       call_free = record { in_range = known.for_call.numbers.in_range; own = known.for_call.numbers.own; free = known.for_call.numbers.free };
       call_before = known.for_call.before.1;
+      same_spare = refl;
+      spare_free = spare_still plan h.owners h.owners tree_state then (suc id) me.0.stock.spare me.0.pages.next me.0.call.pages known.spare (λ n own. own) (λ n none. none);
       no_other_page = h.no_other_page;
       in_chain = leaves_stay tree_state then id m after_it h.invariant invariant its workers places (λ n unlinked. absurd (none_after_prime m n needs unlinked));
     } in

@@ -12,12 +12,13 @@ use Rattle.blink_live.specs.declared.view.Role.TheVariants.{Keeper, Pass}
 use Rattle.blink_live.specs.declared.view.View.{View}
 use Rattle.blink_live.specs.GivingBack.{CanGiveBack, gives_back, giving_back}
 use Rattle.blink_live.specs.Reuse.{IsAtHand}
-use Rattle.blink_live.specs.Rule.{HasRows, HasNumbers, IsInRole, Knows, IsTable, IsTableAt}
+use Rattle.blink_live.specs.Rule.{HasRows, HasNumbers, HasSpare, IsInRole, Knows, IsTable, IsTableAt}
 use Rattle.blink_live.specs.Views.{SeatState, span}
 use Rattle.blink_live.proofs.table.CallsOfSeats.{nothing_for_call}
 use Rattle.blink_live.proofs.reuse.ReuseStaysSafe.{reuse_stays, same_reads}
 use Rattle.blink_live.proofs.table.LoadsKeepTable.{moved, load_keeps_with}
 use Rattle.blink_live.proofs.table.MapsWithOneChange.{put_here, put_same}
+use Rattle.blink_live.proofs.table.SparesOfSeats.{spare_still}
 
 module _ (plan : Plan) (some_number : 1 ≤ plan.counts.numbers) (s : State ℕ View) (tree_state : TreeState) (h : IsTableAt plan s tree_state) (id : ℕ) (v : View) (at : get_elem? s.views id ≡ some v) (role : v.role ≡ Pass) (can : CanGiveBack v) where
   known : Knows plan h.owners s.words tree_state h.log id v
@@ -56,6 +57,22 @@ module _ (plan : Plan) (some_number : 1 ≤ plan.counts.numbers) (s : State ℕ 
         free = λ number low high. dite (dec_le v.pages.next number) (λ later. known.numbers.free number later high) (λ earlier. of_call.free number low (omega (arith, earlier, ends)));
       }
 
+  -- the spare numbers stand before those of the call
+  back_spare : HasSpare plan h.owners then (suc id) v.stock.spare v.call.pages.next (span 1 1)
+  back_spare =
+      let ends = can.pages in
+      let was = known.spare in
+      let still = spare_still plan h.owners h.owners tree_state then (suc id) v.stock.spare v.pages.next v.call.pages was (λ n own. own) (λ n none. none) in record {
+        numbers = still.numbers;
+        sessions = still.sessions;
+        before = λ some. dite (dec_le v.stock.spare.stop v.call.pages.next) (λ before. before) (λ after.
+            let low = was.before some in
+            dite (dec_le v.call.pages.next v.stock.spare.next)
+            (λ inside. absurd (was.apart v.stock.spare.next (omega arith, some) (inside, omega (arith, some, low, ends))))
+            (λ across. absurd (was.apart v.call.pages.next (omega (arith, across), omega (arith, after)) (omega arith, omega (arith, after, low, ends)))));
+        apart = λ number within within_call. absurd (omega (arith, within_call));
+      }
+
   knows : Knows plan h.owners s.words then h.log id (gives_back v)
   knows = record {
     same_plan = known.same_plan;
@@ -65,6 +82,7 @@ module _ (plan : Plan) (some_number : 1 ≤ plan.counts.numbers) (s : State ℕ 
     rows = back_rows;
     numbers = back_numbers;
     for_call = nothing_for_call plan h.owners s.words then (suc id) v.call.rows.next v.call.pages.next some_row known.for_call.numbers.in_range.0 some_number;
+    spare = back_spare;
     share = known.share;
     saw = known.saw;
     heard = known.heard;

@@ -15,11 +15,11 @@ use Rattle.blink_live.specs.AtomicSteps.{Decided, PublishesFrom, deciding, other
 use Rattle.blink_live.specs.ComingBack.{puts_back, takes_in, with_stock}
 use Rattle.blink_live.specs.Seats.{IsPassSeat}
 use Rattle.blink_live.specs.Shelves.{HasOtherStock, IsShelved}
-use Rattle.blink_live.specs.Views.{IsCommon, KnowsItsOwn, SeatState, no_aside, publishes_from}
+use Rattle.blink_live.specs.Views.{IsCommon, IsOwned, KnowsItsOwn, SeatState, no_aside, publishes_from}
 
 -- the same stock stands on the shelf
 pub shelved_so : (shelf : Option Shelf) (v w : View) → w.plan ≡ v.plan → w.stock ≡ v.stock → IsShelved shelf v → IsShelved shelf w
-shelved_so None v w plan stock is = tt
+shelved_so None v w plan stock is = subst IsOwned (sym plan) is
 shelved_so (Some shelf) v w plan stock is = (subst IsCommon (sym plan) is.0, stock ∙ is.1)
 
 -- ---- a row of the call's own

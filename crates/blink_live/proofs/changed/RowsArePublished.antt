@@ -29,7 +29,7 @@ use Rattle.blink_live.specs.Changes.{put, after, states_of}
 use Rattle.blink_live.specs.Accounts.{AreAccounts}
 use Rattle.blink_live.specs.Reuse.{IsReuseSafe}
 use Rattle.blink_live.specs.Looks.{IsLeafInChain}
-use Rattle.blink_live.specs.Rule.{Owners, IsPublished, PageWordIs, latch_word, HasRows, HasNumbers, IsShare, IsInRole, IsBoundedWay, Knows, IsTableAt, IsTable}
+use Rattle.blink_live.specs.Rule.{Owners, IsPublished, PageWordIs, latch_word, HasRows, HasNumbers, HasSpare, IsShare, IsInRole, IsBoundedWay, Knows, IsTableAt, IsTable}
 use Rattle.blink_live.specs.Views.{IsCommon, IsOwned, span, publishes}
 use Rattle.blink_live.specs.Words.{place_word, word_count, BeginWith, RowBegins}
 use Rattle.blink_live.proofs.changed.ChangesAreTheMaps.{after-append, states_of-append}
@@ -38,6 +38,7 @@ use Rattle.blink_live.proofs.table.MapsWithOneChange.{put_here, put_else}
 use Rattle.blink_live.proofs.table.OthersKnowTheSame.{LeavesOthers, RowStays, page_word_still, seat_reads_still}
 use Rattle.blink_live.proofs.table.AccountsStay.{AreBy, accounts_grow}
 use Rattle.blink_live.proofs.table.StoresKeepTable.{row_stays, IsStored, prime_still, store_keeps}
+use Rattle.blink_live.proofs.table.SparesOfSeats.{spare_still}
 
 -- a step that keeps pages in their places leaves the ways of operations as they are
 pub ways_stay : (tree_state : TreeState) (new : Pages) (seat : ℕ) (m : PlainMachine) → Invariant tree_state → KeepsPlaces tree_state.pages new → tree_state.machines seat ≡ Some m → descent_bound new m ≡ descent_bound tree_state.pages m
@@ -71,6 +72,8 @@ module _ (plan : Plan) (s : State ℕ View) (tree_state then : TreeState) (h : I
     pub own_free : HasNumbers plan h.owners then (suc id) v.pages
     pub call_free : HasNumbers plan h.owners then (suc id) pages
     pub call_before : pages.stop ≤ v.pages.next
+    pub same_spare : stock.spare ≡ v.stock.spare
+    pub spare_free : HasSpare plan h.owners then (suc id) v.stock.spare v.pages.next pages
     pub no_other_page : (n : ℕ) → plan.counts.numbers ≤ n → then.pages n ≡ None
     pub in_chain : (n : ℕ) → IsLeafInChain tree_state.fan tree_state.prime tree_state.pages n → IsLeafInChain then.fan then.prime then.pages n
 
@@ -181,6 +184,7 @@ module _ (plan : Plan) (s : State ℕ View) (tree_state then : TreeState) (h : I
               };
               numbers = still_numbers pages step.call_free;
             };
+            spare = subst (λ (spare : Span). HasSpare plan new then (suc id) spare v.pages.next pages) (sym step.same_spare) (spare_still plan h.owners new then then (suc id) v.stock.spare v.pages.next pages step.spare_free (λ n its. its) (λ n none. none));
             share = own.own_share;
             saw = ([], append-nil log);
             heard = leaves.longer v.told known.heard;

@@ -23,6 +23,7 @@ use Rattle.blink_live.proofs.table.OthersKnowTheSame.{LeavesOthers, RowStays, pa
 use Rattle.blink_live.proofs.table.LoadsKeepTable.{moved, load_keeps_with}
 use Rattle.blink_live.proofs.table.MapsWithOneChange.{put_here, put_same}
 use Rattle.blink_live.proofs.table.StoresKeepTable.{prime_still, store_keeps}
+use Rattle.blink_live.proofs.table.SparesOfSeats.{spare_still}
 
 -- two rows have no place in common
 other_row_stays : (plan : Plan) (words : List ℕ) (row other i x : ℕ) → 1 ≤ row → 1 ≤ other → other ≢ row → i < ROW_WORDS → RowStays plan words (set words (row_start plan.counts row + i) x) other
@@ -118,6 +119,7 @@ module _ (plan : Plan) (s : State ℕ View) (tree_state : TreeState) (h : IsTabl
       others = known.for_call.others;
       numbers = known.for_call.numbers;
     };
+    spare = spare_still plan h.owners h.owners tree_state tree_state (suc id) v.stock.spare v.pages.next v.call.pages known.spare (λ n own. own) (λ n none. none);
     share = known.share;
     saw = known.saw;
     heard = known.heard;
@@ -190,6 +192,7 @@ module _ (plan : Plan) (s : State ℕ View) (tree_state : TreeState) (h : IsTabl
           others = known.for_call.others;
           numbers = record { in_range = known.for_call.numbers.in_range; own = known.for_call.numbers.own; free = known.for_call.numbers.free };
         };
+        spare = spare_still plan h.owners h.owners tree_state (moved tree_state id v.operation) (suc id) v.stock.spare v.pages.next v.call.pages known.spare (λ n own. own) (λ n none. none);
         share = known.share;
         saw = known.saw;
         heard = known.heard;

@@ -13,6 +13,7 @@ use Rattle.blink_live.specs.declared.shelf.Shelf.{Shelf}
 use Rattle.blink_live.specs.declared.view.Call.{Call}
 use Rattle.blink_live.specs.declared.view.View.{View}
 use Rattle.blink_live.specs.Seats.{HasRead, HasSameNumber, IsAtLeaf, IsPassSeat, found, wants as wants_leaf}
+use Rattle.blink_live.specs.Spares.{HasAny}
 use Rattle.blink_live.specs.Updating.{SameBesideCall, not_yet, HasLeft, HasRowsFor, IsUpdating, IsPastDescent, CanUpdate, IsUnderWay, room_in}
 use Rattle.blink_live.specs.Views.{SeatState, CanBegin, MayChange, SameBesideReads, latch_in, latch_number_by, rows_of, rows_taken, pages_of, for_call, known_of}
 use Rattle.blink_live.specs.Pendings.{IsWaiting, for_latch}
@@ -128,4 +129,5 @@ is_under_way live op first seat m room can same read at_leaf takes shelved has =
       latch_number = ap (λ (r : Room). r.latch_number) takes;
       shelved = shelved_so room.shelf first.me.0 seat.me.0 (ap (λ (v : View). v.plan) read.same.0) (ap (λ (v : View). v.stock) read.same.0) shelved;
       left = left_begins op first.me.0 first.me.1 seat.me m (known_of seat.me.0 (key_of op)) room.shelf can.updates read at_leaf has;
+      spare_first = λ common some. (ap (λ (c : Call). c.pages.next) call, subst HasAny (ap (λ (v : View). v.stock.spare) read.same.0) some);
     }

@@ -27,9 +27,10 @@ use Rattle.blink_live.specs.AtomicSteps.{AnswersInOrder, CanGoOn, Decided, decid
 use Rattle.blink_live.specs.Changes.{changes_made}
 use Rattle.blink_live.specs.Seats.{HasSameNumber, IsFirst, IsPassSeat}
 use Rattle.blink_live.specs.Shelves.{HasSpaceFor, IsShelved, free_in}
-use Rattle.blink_live.specs.Updating.{SameBesideCall, HasDecided, not_yet, decided, HasLeft, IsUpdating, HasEnded, IsUnderWay}
+use Rattle.blink_live.specs.Updating.{SameBesideCall, HasDecided, not_yet, decided, HasLeft, IsUpdating, HasEnded, IsUnderWay, UsesSpareFirst}
 use Rattle.blink_live.specs.Views.{IsAnnounced, IsCommon, MayChange, SeatState, changed_by, for_call, latch_number_by, no_words, pages_of, rows_taken, span}
-use Rattle.blink_live.specs.Words.{IsRowNumber}
+use Rattle.blink_live.specs.Spares.{HasAny}
+use Rattle.blink_live.specs.Words.{AreNumbersIn, IsRowNumber}
 use Rattle.blink_live.proofs.told.PrefixesOfOneList.{prefix_of_prefix}
 use Rattle.blink_live.proofs.changed.RowsAreLent.{shelved_so}
 use Rattle.blink_live.proofs.changed.RowsTaken.{less_space}
@@ -243,7 +244,7 @@ module _ {live : Live} {op : Op} {first seat : Seat ℕ View} {m : PlainMachine}
   pub space_for_prime : NeedsPrimeWrite m → HasSpaceFor room.shelf 1
   space_for_prime needs = less_space room.shelf _ 1 (some_prime needs) is.left.space
 
-  pub number_for_new : NeedsNew m → IsFirst room.pages.next seat.me.0.call.pages × IsPageNumber room.pages.next × (room.pages.next < live.counts.numbers)
+  pub number_for_new : NeedsNew m → HasAny room.pages × AreNumbersIn live.counts room.pages
   number_for_new needs =
       let some = is.updating.next.enough.numbers needs in
       let left = is.left in
@@ -251,11 +252,11 @@ module _ {live : Live} {op : Op} {first seat : Seat ℕ View} {m : PlainMachine}
       let later = left.later in
       let same_stop = left.same_stop in
       let at = ap (λ (s : Span). s.next) is.room_is.1 in
+      let ends = ap (λ (s : Span). s.stop) is.room_is.1 in
       let begin = is.can.can_begin.pages in
       let range = is.can.pages in (
-        (at, omega (arith, at, left_pages, some)),
-        (omega (arith, at, later, range), omega (arith, at, left_pages, some, same_stop, begin, range)),
-        omega (arith, at, left_pages, some, same_stop, begin, range),
+        omega (arith, at, ends, left_pages, some),
+        (omega (arith, at, later, range), omega (arith, ends, same_stop, begin, range), range.2),
       )
 
   -- its first row is used, or none where it wrote a free one
@@ -276,8 +277,8 @@ module _ {live : Live} {op : Op} {first seat : Seat ℕ View} {m : PlainMachine}
 
   -- after a turn
   module _ {after : PlainMachine} {next : Seat ℕ View} (same : HasSameNumber seat next) where
-    turned : (then : Room) → Takes m after seat.me next.me → HasLeft then.shelf begun.0.call next.me.0.call after → (then.rows ≡ next.me.0.call.rows) × (then.pages ≡ next.me.0.call.pages) → then.latch_number ≡ room.latch_number → IsShelved then.shelf next.me.0 → IsUnderWay live op first next after then
-    turned then takes left same_room same_latch shelved = record {
+    turned : (then : Room) → Takes m after seat.me next.me → UsesSpareFirst first.me.0 next.me.0 → HasLeft then.shelf begun.0.call next.me.0.call after → (then.rows ≡ next.me.0.call.rows) × (then.pages ≡ next.me.0.call.pages) → then.latch_number ≡ room.latch_number → IsShelved then.shelf next.me.0 → IsUnderWay live op first next after then
+    turned then takes spare_first left same_room same_latch shelved = record {
       can = is.can;
       same_number = (same.0 ∙ is.same_number.0, same.1 ∙ is.same_number.1);
       updating = updating_on op begun seat.me next.me m after is.updating takes;
@@ -285,11 +286,14 @@ module _ {live : Live} {op : Op} {first seat : Seat ℕ View} {m : PlainMachine}
       latch_number = same_latch ∙ is.latch_number;
       shelved = shelved;
       left = left;
+      spare_first = spare_first;
     }
 
     -- which uses nothing of its room
     in_its_room : Takes m after seat.me next.me → (next.me.0.plan ≡ seat.me.0.plan) × (next.me.0.stock ≡ seat.me.0.stock) → next.me.0.call ≡ seat.me.0.call → writes_left after ≤ writes_left m → primes_left after ≤ primes_left m → numbers_left after ≤ numbers_left m → IsUnderWay live op first next after room
-    in_its_room takes same_stock same_call writes primes numbers = turned room takes (still_left room.shelf begun.0.call seat.me.0.call next.me.0.call m after is.left same_call writes primes numbers)
+    in_its_room takes same_stock same_call writes primes numbers = turned room takes
+        (λ common some. let was = is.spare_first (subst IsCommon same_stock.0 common) (subst HasAny (ap (λ (x : Stock). x.spare) same_stock.1) some) in (ap (λ (c : Call). c.pages.next) same_call ∙ was.0, was.1))
+        (still_left room.shelf begun.0.call seat.me.0.call next.me.0.call m after is.left same_call writes primes numbers)
         (is.room_is.0 ∙ ap (λ (c : Call). c.rows) (sym same_call), is.room_is.1 ∙ ap (λ (c : Call). c.pages) (sym same_call)) refl (shelved_so room.shelf seat.me.0 next.me.0 same_stock.0 same_stock.1 is.shelved)
 
     pub after_page : (number row : ℕ) → LoadsPage m number seat.me row after next.me → IsUnderWay live op first next after room
@@ -330,52 +334,55 @@ module _ {live : Live} {op : Op} {first seat : Seat ℕ View} {m : PlainMachine}
           latch_number = is.latch_number;
           shelved = subst (λ (x : SeatState). IsShelved room.shelf x.0) (sym same_view) is.shelved;
           left = subst (λ (x : SeatState × PlainMachine). HasLeft room.shelf begun.0.call x.0.0.call x.1) (λ i. (sym same_view i, sym same_machine i)) is.left;
+          spare_first = subst (λ (x : SeatState). UsesSpareFirst first.me.0 x.0) (sym same_view) is.spare_first;
         }
 
     -- which publishes a row
-    after_write : (kind : Kind) (rows pages : Span) (stock : Stock) (new : ℕ) (then : Room) → after ≡ done m new → PublishesFrom kind rows pages stock m (done m new) seat.me next.me
+    after_write : (kind : Kind) (rows pages : Span) (stock : Stock) (new : ℕ) (then : Room) → (IsCommon seat.me.0.plan → HasAny stock.spare → (pages.next ≡ seat.me.0.call.pages.next) × HasAny seat.me.0.stock.spare) → after ≡ done m new → PublishesFrom kind rows pages stock m (done m new) seat.me next.me
         → (rows.stop ≡ seat.me.0.call.rows.stop) × (seat.me.0.call.rows.next ≤ rows.next) × (rows.next ≤ rows.stop) → (rows.next + (writes_left (done m new) + primes_left (done m new)) ≤ rows.stop + free_in then.shelf) × HasSpaceFor then.shelf (writes_left (done m new) + primes_left (done m new)) → (pages.stop ≡ seat.me.0.call.pages.stop) × (seat.me.0.call.pages.next ≤ pages.next)
         → pages.next + numbers_left (done m new) ≤ pages.stop → (then.rows ≡ rows) × (then.pages ≡ pages) → then.latch_number ≡ room.latch_number → IsShelved then.shelf next.me.0 → IsUnderWay live op first next after then
-    after_write kind rows pages stock new then is_done does kept writes later numbers same_room same_latch shelved =
+    after_write kind rows pages stock new then spare_first is_done does kept writes later numbers same_room same_latch shelved =
         let call : next.me.0.call ≡ record { rows = rows; pages = pages; staged = no_words } = ap (λ (x : SeatState). x.0.call) does.is in
         turned then
         (subst (λ (k : PlainMachine). Takes m k seat.me next.me) (sym is_done) (publish_takes kind rows pages stock m new seat.me next.me is.updating.past_descent does))
+        (λ common some.
+        let common_then : IsCommon seat.me.0.plan = subst IsCommon (ap (λ (x : SeatState). x.0.plan) does.is) common in
+        let used = spare_first common_then (subst HasAny (ap (λ (x : SeatState). x.0.stock.spare) does.is) some) in
+        let was = is.spare_first common_then used.1 in
+        (ap (λ (c : Call). c.pages.next) call ∙ (used.0 ∙ was.0), was.1))
         (subst (λ (k : PlainMachine). HasLeft then.shelf begun.0.call next.me.0.call k) (sym is_done) (row_is_used room.shelf then.shelf begun.0.call seat.me.0.call next.me.0.call rows pages m (done m new) is.left call kept writes later numbers))
         (same_room.0 ∙ sym (ap (λ (c : Call). c.rows) call), same_room.1 ∙ sym (ap (λ (c : Call). c.pages) call)) same_latch shelved
 
-    pub after_write_page : (lent : Bool) (number : ℕ) (stock : Stock) (then : Room) → after ≡ done m 0 → PublishesFrom (write_page number) (rows_after lent seat.me.0.call.rows) seat.me.0.call.pages stock m (done m 0) seat.me next.me
+    pub after_write_page : (lent : Bool) (number : ℕ) (stock : Stock) → stock.spare ≡ seat.me.0.stock.spare → (then : Room) → after ≡ done m 0 → PublishesFrom (write_page number) (rows_after lent seat.me.0.call.rows) seat.me.0.call.pages stock m (done m 0) seat.me next.me
         → then.rows ≡ rows_after lent seat.me.0.call.rows → then.pages ≡ room.pages → then.latch_number ≡ room.latch_number → IsShelved then.shelf next.me.0 → WritesFree lent (free_in room.shelf) (free_in then.shelf) → ((count : ℕ) → HasSpaceFor room.shelf (suc count) → HasSpaceFor then.shelf count) → IsUnderWay live op first next after then
-    after_write_page lent number stock then is_done does same_rows same_pages same_latch shelved uses space =
+    after_write_page lent number stock same_spare then is_done does same_rows same_pages same_latch shelved uses space =
         let pages = does.uses.numbers in
         let writes = does.uses.page_writes in
         let primes = does.uses.prime_writes in
         let left = is.left.pages in
         let fewer = fewer_rows lent (done m 0) (free_in then.shelf) (omega (arith, writes, primes)) uses in
-        after_write (write_page number) (rows_after lent seat.me.0.call.rows) seat.me.0.call.pages stock 0 then is_done does (fewer.0, fewer.1, fewer.2) (fewer.3, space _ (less_space room.shelf _ _ (omega (arith, writes, primes)) is.left.space)) (refl, omega arith) (omega (arith, pages, left)) (same_rows, same_pages ∙ is.room_is.1) same_latch shelved
+        after_write (write_page number) (rows_after lent seat.me.0.call.rows) seat.me.0.call.pages stock 0 then (λ common some. (refl, subst HasAny same_spare some)) is_done does (fewer.0, fewer.1, fewer.2) (fewer.3, space _ (less_space room.shelf _ _ (omega (arith, writes, primes)) is.left.space)) (refl, omega arith) (omega (arith, pages, left)) (same_rows, same_pages ∙ is.room_is.1) same_latch shelved
 
-    pub after_write_prime : (lent : Bool) (stock : Stock) (then : Room) → after ≡ done m 0 → PublishesFrom write_prime (rows_after lent seat.me.0.call.rows) seat.me.0.call.pages stock m (done m 0) seat.me next.me
+    pub after_write_prime : (lent : Bool) (stock : Stock) → stock.spare ≡ seat.me.0.stock.spare → (then : Room) → after ≡ done m 0 → PublishesFrom write_prime (rows_after lent seat.me.0.call.rows) seat.me.0.call.pages stock m (done m 0) seat.me next.me
         → then.rows ≡ rows_after lent seat.me.0.call.rows → then.pages ≡ room.pages → then.latch_number ≡ room.latch_number → IsShelved then.shelf next.me.0 → WritesFree lent (free_in room.shelf) (free_in then.shelf) → ((count : ℕ) → HasSpaceFor room.shelf (suc count) → HasSpaceFor then.shelf count) → IsUnderWay live op first next after then
-    after_write_prime lent stock then is_done does same_rows same_pages same_latch shelved uses space =
+    after_write_prime lent stock same_spare then is_done does same_rows same_pages same_latch shelved uses space =
         let pages = does.uses.numbers in
         let writes = does.uses.page_writes in
         let primes = does.uses.prime_writes in
         let left = is.left.pages in
         let fewer = fewer_rows lent (done m 0) (free_in then.shelf) (omega (arith, writes, primes)) uses in
-        after_write write_prime (rows_after lent seat.me.0.call.rows) seat.me.0.call.pages stock 0 then is_done does (fewer.0, fewer.1, fewer.2) (fewer.3, space _ (less_space room.shelf _ _ (omega (arith, writes, primes)) is.left.space)) (refl, omega arith) (omega (arith, pages, left)) (same_rows, same_pages ∙ is.room_is.1) same_latch shelved
+        after_write write_prime (rows_after lent seat.me.0.call.rows) seat.me.0.call.pages stock 0 then (λ common some. (refl, subst HasAny same_spare some)) is_done does (fewer.0, fewer.1, fewer.2) (fewer.3, space _ (less_space room.shelf _ _ (omega (arith, writes, primes)) is.left.space)) (refl, omega arith) (omega (arith, pages, left)) (same_rows, same_pages ∙ is.room_is.1) same_latch shelved
 
-    pub after_write_new : (lent : Bool) (stock : Stock) (then : Room) → NeedsNew m → after ≡ done m room.pages.next
-        → PublishesFrom (write_page seat.me.0.call.pages.next) (rows_after lent seat.me.0.call.rows) (span (suc seat.me.0.call.pages.next) seat.me.0.call.pages.stop) stock m (done m seat.me.0.call.pages.next) seat.me next.me
-        → then.rows ≡ rows_after lent seat.me.0.call.rows → then.pages ≡ span (room.pages.next + 1) room.pages.stop → then.latch_number ≡ room.latch_number → IsShelved then.shelf next.me.0 → WritesFree lent (free_in room.shelf) (free_in then.shelf) → ((count : ℕ) → HasSpaceFor room.shelf (count) → HasSpaceFor then.shelf count) → IsUnderWay live op first next after then
-    after_write_new lent stock then needs is_done does same_rows same_pages same_latch shelved uses space =
-        let at : room.pages.next ≡ seat.me.0.call.pages.next = ap (λ (s : Span). s.next) is.room_is.1 in
+    pub after_write_new : (lent : Bool) (number : ℕ) (pages : Span) (stock : Stock) (then : Room) → (IsCommon seat.me.0.plan → HasAny stock.spare → (pages.next ≡ seat.me.0.call.pages.next) × HasAny seat.me.0.stock.spare) → NeedsNew m → after ≡ done m number → PublishesFrom (write_page number) (rows_after lent seat.me.0.call.rows) pages stock m (done m number) seat.me next.me
+        → (pages.stop ≡ seat.me.0.call.pages.stop) × (seat.me.0.call.pages.next ≤ pages.next) × (pages.next ≤ suc seat.me.0.call.pages.next) → then.rows ≡ rows_after lent seat.me.0.call.rows → then.pages ≡ pages → then.latch_number ≡ room.latch_number → IsShelved then.shelf next.me.0 → WritesFree lent (free_in room.shelf) (free_in then.shelf) → ((count : ℕ) → HasSpaceFor room.shelf (count) → HasSpaceFor then.shelf count) → IsUnderWay live op first next after then
+    after_write_new lent number pages stock then spare_first needs is_done does kept same_rows same_pages same_latch shelved uses space =
         let writes = does.uses.page_writes in
         let primes = does.uses.prime_writes in
         let left = is.left.pages in
-        let now : after ≡ done m seat.me.0.call.pages.next = is_done ∙ ap (done m) at in
-        let numbers = new_uses_number m (done m seat.me.0.call.pages.next) (write_page seat.me.0.call.pages.next) needs does.uses in
-        let fewer = fewer_rows lent (done m seat.me.0.call.pages.next) (free_in then.shelf) (omega (arith, writes, primes)) uses in
-        after_write (write_page seat.me.0.call.pages.next) (rows_after lent seat.me.0.call.rows) (span (suc seat.me.0.call.pages.next) seat.me.0.call.pages.stop) stock seat.me.0.call.pages.next then now does
-        (fewer.0, fewer.1, fewer.2) (fewer.3, space _ (less_space room.shelf _ _ (omega (arith, writes, primes)) is.left.space)) (refl, omega arith) (omega (arith, numbers, left)) (same_rows, same_pages ∙ one_less room.pages seat.me.0.call.pages is.room_is.1) same_latch shelved
+        let numbers = new_uses_number m (done m number) (write_page number) needs does.uses in
+        let fewer = fewer_rows lent (done m number) (free_in then.shelf) (omega (arith, writes, primes)) uses in
+        after_write (write_page number) (rows_after lent seat.me.0.call.rows) pages stock number then spare_first is_done does
+        (fewer.0, fewer.1, fewer.2) (fewer.3, space _ (less_space room.shelf _ _ (omega (arith, writes, primes)) is.left.space)) (kept.0, kept.1) (omega (arith, numbers, left, kept)) (same_rows, same_pages) same_latch shelved
 
 -- ---- its end
 

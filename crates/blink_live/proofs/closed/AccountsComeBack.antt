@@ -25,6 +25,7 @@ use Rattle.blink_live.proofs.reuse.ReuseStaysSafe.{hand_stays, reuse_stays, reus
 use Rattle.blink_live.proofs.table.OwnersChange.{StillOwns, seat_reads_still, share_still, knows_still, owners_change}
 use Rattle.blink_live.proofs.table.SeatsThatStay.{at_put, views_stay}
 use Rattle.blink_live.proofs.table.SpentSeats.{spent_knows}
+use Rattle.blink_live.proofs.table.SparesOfSeats.{spare_still}
 
 -- whose is what after the place has come back
 abbrev owners_after : Owners → ℕ → ℕ → Owners
@@ -98,6 +99,7 @@ module _ (plan : Plan) (some_number : 1 ≤ plan.counts.numbers) (s : State ℕ 
     rows = record { in_range = known.rows.in_range; own = known.rows.own };
     numbers = record { in_range = known.numbers.in_range; own = known.numbers.own; free = known.numbers.free };
     for_call = call_still plan old new s.words tree_state tree_state (suc id) v.call v.rows.next v.pages.next v.rows.next v.pages.next known.for_call (omega arith, omega arith) (λ r below own. own) (λ n below own. own) (λ n none. none);
+    spare = spare_still plan old new tree_state tree_state (suc id) v.stock.spare v.pages.next v.call.pages known.spare (λ n own. own) (λ n none. none);
     share = share_still plan old new s.words h.log (λ row is. is) (suc id) (suc id) v.share (λ key is. is) known.share;
     saw = known.saw;
     heard = its.saw;

@@ -17,7 +17,7 @@ use Rattle.blink_live.specs.Dealing.{CanDeal}
 use Rattle.blink_live.specs.Reuse.{IsAtHand, IsReuseSafe}
 use Rattle.blink_live.specs.Accounts.{IsAccount, AreAccounts, made_at, account_of, accounts_in, accounts_of}
 use Rattle.blink_live.specs.Rule.{HasPool, Owners, IsFree, IsShare, IsInRole, Knows, pass_count, passes_in, AreCounted, IsTableAt, IsTable}
-use Rattle.blink_live.specs.Views.{is_among, changes_of, share_of_keys, deals_one, dealt_in, keeps_rest, gets_first, latch_in, IsCommon}
+use Rattle.blink_live.specs.Views.{is_among, changes_of, share_of_keys, deals_one, dealt_in, keeps_rest, gets_first, latch_in, IsCommon, span}
 use Rattle.blink_live.specs.Words.{place_word}
 use Rattle.blink_live.proofs.dealt.KeysOfShare.{among_from_contains, contains_from_among, entries_of_keep, changes_of_keep}
 use Rattle.blink_live.proofs.told.EntriesAfterChanges.{after-same_states, entries_after-state}
@@ -30,6 +30,7 @@ use Rattle.blink_live.proofs.table.PassesOut.{at_end, passes_more, passes_role}
 use Rattle.blink_live.proofs.table.SeatsThatStay.{at_inside, at_put, views_stay}
 use Rattle.blink_live.proofs.table.CallsOfSeats.{call_still, nothing_for_call}
 use Rattle.blink_live.proofs.table.LooksStay.{nothing_noted}
+use Rattle.blink_live.proofs.table.SparesOfSeats.{no_spare, spare_beside}
 
 -- whose is what after the deal
 abbrev owners_after : Owners → ℕ → View → ℕ → ℕ → List ℕ → Owners
@@ -162,6 +163,8 @@ module _ (plan : Plan) (s : State ℕ View) (tree_state : TreeState) (h : IsTabl
     for_call = call_still plan old new s.words tree_state tree_state (suc id) v.call v.rows.next v.pages.next (v.rows.next + rows) (v.pages.next + pages) known.for_call (omega arith, omega arith)
         (λ r below own. ranged_out v.rows.next (v.rows.next + rows) (suc new_seat) old.row r (λ a b. omega (arith, a, below)) ∙ own)
         (λ n below own. ranged_out v.pages.next (v.pages.next + pages) (suc new_seat) old.page n (λ a b. omega (arith, a, below)) ∙ own) (λ n none. none);
+    spare = spare_beside plan old new tree_state tree_state (suc id) v.stock.spare v.pages.next v.call.pages known.spare (v.pages.next + pages) v.call.pages (omega arith) (λ n within is. is)
+        (λ n within own. ranged_out v.pages.next (v.pages.next + pages) (suc new_seat) old.page n (λ a b. let ends = known.spare.before (omega (arith, within)) in omega (arith, a, ends, within)) ∙ own) (λ n within own none. none);
     share = share_still plan old new s.words h.log published (suc id) (suc id) v.share (λ key is. key_else key (suc id) is (λ e. absurd (omega (arith, e)))) known.share;
     saw = known.saw;
     heard = known.heard;
@@ -209,6 +212,7 @@ module _ (plan : Plan) (s : State ℕ View) (tree_state : TreeState) (h : IsTabl
       free = λ number low high. known.numbers.free number low (let enough = can.enough_pages in omega (arith, enough, high));
     };
     for_call = nothing_for_call plan new s.words tree_state (suc new_seat) v.rows.next v.pages.next known.rows.in_range.0 known.numbers.in_range.0 (let low = known.numbers.in_range in let enough = can.enough_pages in omega (arith, low, enough));
+    spare = no_spare plan new tree_state (suc new_seat) v.pages.next (span 1 1) (let low = known.numbers.in_range in let enough = can.enough_pages in omega (arith, low, enough));
     share = new_share;
     saw = known.saw;
     heard = (h.log, refl);

@@ -23,13 +23,14 @@ use Rattle.blink_live.specs.declared.view.View.{View}
 use Rattle.blink_live.specs.AtomicSteps.{begins}
 use Rattle.blink_live.specs.Reuse.{IsAtHand}
 use Rattle.blink_live.specs.Rule.{ReadsRow, IsInRole, IsBoundedWay, Knows, IsTable, IsTableAt}
-use Rattle.blink_live.specs.Views.{rows_taken, IsCommon, SeatState, CanBegin, for_call, reading}
+use Rattle.blink_live.specs.Views.{pages_of, rows_taken, IsCommon, SeatState, CanBegin, for_call, reading, span}
 use Rattle.blink_live.proofs.reuse.ReuseStaysSafe.{reads_named, reuse_stays}
 use Rattle.blink_live.proofs.table.AccountsStay.{account, still_saw}
 use Rattle.blink_live.proofs.table.LoadsKeepTable.{moved, load_keeps_with}
 use Rattle.blink_live.proofs.table.SharesAreKnown.{share_is_known}
 use Rattle.blink_live.proofs.table.MapsWithOneChange.{put_here, put_else}
 use Rattle.blink_live.proofs.table.NextPageIsThere.{next_page_is_there}
+use Rattle.blink_live.proofs.table.SparesOfSeats.{spare_beside}
 
 -- an operation that goes on is that one
 pub goes_on_as : (m : PlainMachine) (state : MachineState) (other : PlainMachine) → goes_on m state ≡ Some other → m ≡ other
@@ -93,6 +94,8 @@ module _ (plan : Plan) (s : State ℕ View) (tree_state : TreeState) (h : IsTabl
             free = λ number low high. known.numbers.free number low (omega (arith, high, enough_pages));
           };
         };
+        spare = let low = known.spare.before in spare_beside plan h.owners h.owners tree_state (moved tree_state id (goes_on after after.state)) (suc id) v.stock.spare v.pages.next v.call.pages known.spare (v.pages.next + pages_of op) (span v.pages.next (v.pages.next + pages_of op)) (omega arith)
+            (λ n within within_call. absurd (let ends = low (omega (arith, within)) in omega (arith, ends, within, within_call))) (λ n within own. own) (λ n within own none. none);
         share = known.share;
         saw = ([], append-nil h.log);
         heard = known.heard;

@@ -12,6 +12,7 @@ use Rattle.blink_live.specs.declared.view.View.{View}
 use Rattle.blink_live.specs.Rule.{Owners, IsShare, IsInRole, Knows}
 use Rattle.blink_live.proofs.table.OwnersChange.{seat_reads_still, share_still}
 use Rattle.blink_live.proofs.table.CallsOfSeats.{call_still}
+use Rattle.blink_live.proofs.table.SparesOfSeats.{spare_still}
 
 -- whose is what after these keys have got this owner
 abbrev pub keys_moved : Owners → (ℕ → Bool) → ℕ → Owners
@@ -62,6 +63,7 @@ module _ (plan : Plan) (old : Owners) (words : List ℕ) (tree_state : TreeState
     rows = record { in_range = known.rows.in_range; own = known.rows.own };
     numbers = record { in_range = known.numbers.in_range; own = known.numbers.own; free = known.numbers.free };
     for_call = call_still plan old new words tree_state tree_state (suc seat) v.call v.rows.next v.pages.next v.rows.next v.pages.next known.for_call (omega arith, omega arith) (λ r below own. own) (λ n below own. own) (λ n none. none);
+    spare = spare_still plan old new tree_state tree_state (suc seat) v.stock.spare v.pages.next v.call.pages known.spare (λ n own. own) (λ n none. none);
     share = its;
     saw = known.saw;
     heard = heard;

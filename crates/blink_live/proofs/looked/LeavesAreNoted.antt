@@ -49,6 +49,7 @@ with_look plan owners words tree_state log id v look role looked known = record 
   rows = known.rows;
   numbers = known.numbers;
   for_call = known.for_call;
+  spare = known.spare;
   share = known.share;
   saw = known.saw;
   heard = known.heard;

@@ -30,6 +30,7 @@ use Rattle.blink_live.proofs.table.LooksStay.{nothing_noted}
 use Rattle.blink_live.proofs.table.CallsOfSeats.{nothing_for_call}
 use Rattle.blink_live.proofs.reuse.ReuseStaysSafe.{agrees_with_none, empty_stock}
 use Rattle.blink_live.proofs.table.AccountsStay.{none_apart}
+use Rattle.blink_live.proofs.table.SparesOfSeats.{no_spare}
 
 -- the plan of a table that opens
 abbrev pub plan_over : PlainStore → PlainCounts → ℕ → Plan
@@ -159,6 +160,7 @@ module _ (store : PlainStore) (counts : PlainCounts) (places : ℕ) (words : Lis
     numbers = first_numbers places;
     for_call = nothing_for_call (plan_over store counts places) (owners_over (length store.pages)) words (tree_state_over store) 1 (first_span places (length store.pages + 2) (counts.rows + 1)).next (first_span places (length store.pages + 1) counts.numbers).next
         (some_first places (length store.pages + 2) (counts.rows + 1) (omega arith)) (some_first places (length store.pages + 1) counts.numbers (omega arith)) (omega arith);
+    spare = no_spare (plan_over store counts places) (owners_over (length store.pages)) (tree_state_over store) 1 (first_span places (length store.pages + 1) counts.numbers).next (span 1 1) (omega arith);
     share = λ key among. absurd (omega (arith, among.1));
     saw = ([], refl);
     heard = ([], refl);

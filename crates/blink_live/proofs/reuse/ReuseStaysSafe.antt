@@ -11,7 +11,7 @@ use Rattle.blink_live.specs.declared.view.Role.TheVariants.{Pass}
 use Rattle.blink_live.specs.declared.view.Stock.{Stock}
 use Rattle.blink_live.specs.declared.view.View.{View}
 use Rattle.blink_live.specs.Reuse.{AgreesWith, AreNamedOnce, HasAside, HasRowsOnce, HasStock, HoldsRow, IsAside, IsAtHand, IsReadBesides, IsReuseSafe, IsTakenOut, IsWithin}
-use Rattle.blink_live.specs.Views.{no_aside, no_look, no_stock}
+use Rattle.blink_live.specs.Views.{no_aside, no_look, no_stock, with_spare}
 use Rattle.blink_live.proofs.table.LooksStay.{none_noted}
 use Rattle.blink_live.proofs.table.PassesOut.{at_end}
 use Rattle.blink_live.proofs.table.SeatsThatStay.{views_stay}
@@ -116,6 +116,18 @@ module _ (plan : Plan) (whose new : ℕ → ℕ) (words then : List ℕ) (views 
         seat v at_v other u at_u;
   }
 
+-- ---- page numbers beside
+
+-- where other page numbers are beside, the rows of a stock are as they were
+pub once_beside : (spare : Span) (stock : Stock) → HasRowsOnce stock → HasRowsOnce (with_spare spare stock)
+once_beside spare stock once = record { free = once.free; retired = once.retired; waiting = once.waiting; free_retired = once.free_retired; free_waiting = once.free_waiting; retired_waiting = once.retired_waiting }
+
+-- and who reads agrees with it as before
+pub agrees_beside : (spare : Span) (stock : Stock) (u : View) → AgreesWith stock u → AgreesWith (with_spare spare stock) u
+agrees_beside spare stock u agrees row content is =
+    let besides = agrees row content is in
+    record { not_free = besides.not_free; not_past = λ waits. let held = besides.not_past waits in record { later = held.later; same = held.same } }
+
 -- ---- a step that takes out no row
 
 -- a seat that reads a row reads that one
@@ -181,24 +193,29 @@ module _ (plan : Plan) (whose : ℕ → ℕ) (words : List ℕ) (views : List Vi
         let first = named one few_one in
         safe.named_once one other few_one few_other (omega (arith, least, first)) (sym first ∙ (same ∙ named other few_other))
 
-    pub reuse_stays : w.stock ≡ v.stock → ((row : ℕ) → IsAtHand w row → IsAtHand v row ⊎ (whose row ≢ suc id)) → MayReadOn plan words v w → IsReuseSafe plan new then (set views id w)
-    reuse_stays same hand may = safe_then plan whose new words then views id w safe record {
+    -- the seat has these page numbers beside
+    pub reuse_beside : (spare : Span) → w.stock ≡ with_spare spare v.stock → ((row : ℕ) → IsAtHand w row → IsAtHand v row ⊎ (whose row ≢ suc id)) → MayReadOn plan words v w → IsReuseSafe plan new then (set views id w)
+    reuse_beside spare same hand may = safe_then plan whose new words then views id w safe record {
       claim = safe.claim;
       named_once = once_still;
       own =
           let kept = stock_kept plan whose new words then safe.claim safe.claim id v (out_still id) (λ row later is not_there. owned id row later is (λ e. not_there)) its in record {
             awake = λ row content is. (may row content is).awake;
-            once = subst HasRowsOnce (sym same) its.once;
+            once = subst HasRowsOnce (sym same) (once_beside spare v.stock its.once);
             free = λ row has. kept.free row (subst (λ (x : Stock). Contains x.free row) same has);
             retired = λ row has. kept.retired row (subst (λ (x : Stock). Contains x.retired row) same has);
             waiting = λ row has. kept.waiting row (subst (λ (x : Stock). Contains x.waiting row) same has);
             aside = aside_kept plan whose new id v w (ap (λ (x : Stock). x.aside) same) (λ row later is not_there. owned id row later is (λ e. not_there)) hand its.aside;
           };
       others = λ seat u differ there. stock_kept plan whose new words then safe.claim safe.claim seat u (out_still seat) (λ row later is not_there. owned seat row later is (λ e. absurd (differ e))) (safe.stocks seat u there);
-      own_reads = subst (λ (x : Stock). AgreesWith x w) (sym same) (agrees_on may id v at);
-      others_read = λ seat u differ there. subst (λ (x : Stock). AgreesWith x u) (sym same) (safe.agree id seat v u at there);
+      own_reads = subst (λ (x : Stock). AgreesWith x w) (sym same) (agrees_beside spare v.stock w (agrees_on may id v at));
+      others_read = λ seat u differ there. subst (λ (x : Stock). AgreesWith x u) (sym same) (agrees_beside spare v.stock u (safe.agree id seat v u at there));
       reads_theirs = λ seat u differ there. agrees_on may seat u there;
     }
+
+    -- or those that it had
+    pub reuse_stays : w.stock ≡ v.stock → ((row : ℕ) → IsAtHand w row → IsAtHand v row ⊎ (whose row ≢ suc id)) → MayReadOn plan words v w → IsReuseSafe plan new then (set views id w)
+    reuse_stays same = reuse_beside v.stock.spare same
 
     -- the seat has no stock any more, and reads nothing
     pub reuse_without : w.stock ≡ no_stock → w.reads ≡ None → w.look ≡ no_look → IsReuseSafe plan new then (set views id w)

@@ -26,6 +26,7 @@ use Rattle.blink_live.proofs.table.CallsOfSeats.{call_still}
 use Rattle.blink_live.proofs.table.LooksStay.{looks_stay}
 use Rattle.blink_live.proofs.table.MapsWithOneChange.{put_here, put_else}
 use Rattle.blink_live.proofs.table.SeatsThatStay.{views_stay, counted_stays}
+use Rattle.blink_live.proofs.table.SparesOfSeats.{spare_still}
 
 module _ (plan : Plan) (s : State ℕ View) (tree_state : TreeState) (h : IsTableAt plan s tree_state) (id row : ℕ) (v : View) (at : get_elem? s.views id ≡ some v) (role : v.role ≡ Pass) (common : IsCommon plan) (some_number : 1 ≤ plan.counts.numbers) (low : v.rows.next ≤ row) (last : v.rows.stop ≡ suc row) where
   known : Knows plan h.owners s.words tree_state h.log id v
@@ -121,6 +122,7 @@ module _ (plan : Plan) (s : State ℕ View) (tree_state : TreeState) (h : IsTabl
     numbers = record { in_range = known.numbers.in_range; own = known.numbers.own; free = known.numbers.free };
     for_call = call_still plan h.owners new s.words tree_state tree_state (suc id) v.call v.rows.next v.pages.next v.rows.next v.pages.next known.for_call (omega arith, omega arith)
         (λ r below is. else_same r (λ e. omega (arith, e, below, low)) ∙ is) (λ n below own. own) (λ n free. free);
+    spare = spare_still plan h.owners new tree_state tree_state (suc id) v.stock.spare v.pages.next v.call.pages known.spare (λ n own. own) (λ n none. none);
     share = share_same plan h.owners whose s.words tree_state h.log (suc id) v.share known.share;
     saw = known.saw;
     heard = known.heard;

@@ -32,6 +32,7 @@ use Rattle.blink_live.proofs.table.LoadsKeepTable.{moved, load_keeps_with}
 use Rattle.blink_live.proofs.table.LooksStay.{looks_stay}
 use Rattle.blink_live.proofs.table.MapsWithOneChange.{put_here, put_else, put_same}
 use Rattle.blink_live.proofs.table.SeatsThatStay.{views_stay, counted_stays}
+use Rattle.blink_live.proofs.table.SparesOfSeats.{spare_still}
 
 -- ---- rows with other owners
 
@@ -57,6 +58,7 @@ module _ (plan : Plan) (old : Owners) (row : ℕ → ℕ) (words : List ℕ) (tr
     rows = record { in_range = known.rows.in_range; own = λ r low high. owns r (known.rows.own r low high) };
     numbers = record { in_range = known.numbers.in_range; own = known.numbers.own; free = known.numbers.free };
     for_call = call_still plan old (with_row old row) words tree_state tree_state (suc seat) v.call v.rows.next v.pages.next v.rows.next v.pages.next known.for_call (omega arith, omega arith) (λ r below. owns r) (λ n below own. own) (λ n free. free);
+    spare = spare_still plan old (with_row old row) tree_state tree_state (suc seat) v.stock.spare v.pages.next v.call.pages known.spare (λ n own. own) (λ n none. none);
     share = share_same (suc seat) v.share known.share;
     saw = known.saw;
     heard = known.heard;
@@ -148,6 +150,7 @@ module _ (plan : Plan) (s : State ℕ View) (tree_state : TreeState) (h : IsTabl
       others = record { in_range = let range = is_out.in_range in (omega arith, omega (arith, range)); own = λ r low high. absurd (omega (arith, low, high)) };
       numbers = record { in_range = known.for_call.numbers.in_range; own = known.for_call.numbers.own; free = known.for_call.numbers.free };
     };
+    spare = spare_still plan h.owners new tree_state tree_state (suc id) v.stock.spare v.pages.next v.call.pages known.spare (λ n own. own) (λ n none. none);
     share = share_same plan h.owners whose s.words tree_state h.log (suc id) v.share known.share;
     saw = known.saw;
     heard = known.heard;
@@ -300,6 +303,7 @@ module _ (plan : Plan) (s : State ℕ View) (tree_state : TreeState) (h : IsTabl
           others = record { in_range = (omega arith, has_aside.in_range.2); own = λ r low high. has_aside.own r (inr (omega (arith, low), high)) };
           numbers = record { in_range = was.for_call.numbers.in_range; own = was.for_call.numbers.own; free = was.for_call.numbers.free };
         };
+        spare = spare_still plan h.owners h.owners tree_state (moved tree_state id v.operation) (suc id) v.stock.spare v.pages.next v.call.pages was.spare (λ n own. own) (λ n none. none);
         share = was.share;
         saw = was.saw;
         heard = was.heard;

@@ -133,7 +133,7 @@ module _ (plan : Plan) (s : State ℕ View) (tree_state : TreeState) (h : IsTabl
 pub begins_wait_at : (plan : Plan) (slots id : ℕ) (me : SeatState) → me.0.role ≡ Pass → IsCommon plan → me.0.stock.waiting ≡ []
     → Allows (IsTable plan) slots id me 0 (λ k. k) (begins_wait (step slots 0 0 0 none) me)
 begins_wait_at plan slots id me role common none_waits s table homes at small =
-    (with_stock me.0 (begins_to_wait me.0.stock), keeps, tt, stock_keeps plan s table.0 table.1 id 0 me.0 (begins_to_wait me.0.stock) at role (wait_begins plan s table.0 table.1 id me.0 at common none_waits), refl)
+    (with_stock me.0 (begins_to_wait me.0.stock), keeps, tt, stock_keeps plan s table.0 table.1 id 0 me.0 (begins_to_wait me.0.stock) at role refl (wait_begins plan s table.0 table.1 id me.0 at common none_waits), refl)
 
 pub sees_place_at : (plan : Plan) (slots id place : ℕ) (me : SeatState) → me.0.role ≡ Pass → IsCommon plan → place ≡ length me.0.stock.before → place < plan.places
     → Allows (IsTable plan) slots id me (place_word plan.counts place) (λ k. k) (sees_place (step slots (place_word plan.counts place) 0 0 none) me)
@@ -143,7 +143,7 @@ sees_place_at plan slots id place me role common next more s table homes at smal
       with_stock me.0 stock,
       keeps,
       tt,
-      stock_keeps plan s table.0 table.1 id word me.0 stock at role
+      stock_keeps plan s table.0 table.1 id word me.0 stock at role refl
           (subst (λ (n : ℕ). IsReuseSafe plan table.1.owners.row s.words (set s.views id (with_stock me.0 (sees_mark (slice_index s.words (place_word plan.counts n)) me.0.stock)))) (sym next)
           (mark_is_seen plan s table.0 table.1 id me.0 at common (omega (arith, next, more)))),
       refl,
@@ -168,7 +168,7 @@ checks_place_at plan slots id place me role common next looked s table homes at 
       with_stock me.0 (finds_past me.0.stock),
       keeps,
       tt,
-      stock_keeps plan s table.0 table.1 id word me.0 (finds_past me.0.stock) at role
+      stock_keeps plan s table.0 table.1 id word me.0 (finds_past me.0.stock) at role refl
           (place_is_past plan s table.0 table.1 id me.0 at common (omega (arith, next, looked)) (subst (λ (n : ℕ). IsPast me.0.stock (slice_index s.words (place_word plan.counts n))) next past)),
       record { past = λ again. refl; not_yet = λ never. absurd (never past) },
     ))
@@ -183,4 +183,4 @@ checks_place_at plan slots id place me role common next looked s table homes at 
 pub collects_at : (plan : Plan) (slots id : ℕ) (me : SeatState) → me.0.role ≡ Pass → IsCommon plan → plan.places ≤ me.0.stock.passed
     → Allows (IsTable plan) slots id me 0 (λ k. k) (collects (step slots 0 0 0 none) me)
 collects_at plan slots id me role common all s table homes at small =
-    (with_stock me.0 (gets_waiting me.0.stock), keeps, tt, stock_keeps plan s table.0 table.1 id 0 me.0 (gets_waiting me.0.stock) at role (rows_are_free plan s table.0 table.1 id me.0 at common all), refl)
+    (with_stock me.0 (gets_waiting me.0.stock), keeps, tt, stock_keeps plan s table.0 table.1 id 0 me.0 (gets_waiting me.0.stock) at role refl (rows_are_free plan s table.0 table.1 id me.0 at common all), refl)

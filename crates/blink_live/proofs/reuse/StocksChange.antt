@@ -1,21 +1,23 @@
 -- A load after which a session's stock alone is another keeps the rule, where the stock is right and agrees with what the seats read.
-use Rattle.std.proofs.Common.{◌≡◌, ℕ, List, get_or, set, refl, sym, ap, ◌∙◌, subst, inl, arith}
+use Rattle.std.proofs.Common.{◌≡◌, ℕ, suc, List, get_or, set, refl, sym, ap, ◌∙◌, subst, inl, arith}
 use Rattle.std.specs.Prelude.{Contains, slice_index}
 use mathlib.Core.Option.{some}
 use lib.ListN.{get_elem?}
 use Rattle.atomic_table.specs.Table.{State}
 use Rattle.blink_machine.specs.TreeState.{TreeState}
 use Rattle.blink_machine.proofs.Offered.{step_law}
+use Rattle.blink_rows.specs.declared.span.Span.{Span}
 use Rattle.blink_live.specs.declared.view.Plan.{Plan}
 use Rattle.blink_live.specs.declared.view.Role.TheVariants.{Keeper, Pass}
 use Rattle.blink_live.specs.declared.view.Stock.{Stock}
 use Rattle.blink_live.specs.declared.view.View.{View}
 use Rattle.blink_live.specs.ComingBack.{with_stock}
 use Rattle.blink_live.specs.Reuse.{AgreesWith, HasRowsOnce, IsReuseSafe, IsTakenOut}
-use Rattle.blink_live.specs.Rule.{IsInRole, Knows, IsTable, IsTableAt}
+use Rattle.blink_live.specs.Rule.{HasSpare, IsInRole, Knows, IsTable, IsTableAt}
 use Rattle.blink_live.proofs.reuse.ReuseStaysSafe.{aside_kept, holds_same, safe_then}
 use Rattle.blink_live.proofs.table.LoadsKeepTable.{moved, load_keeps_with}
 use Rattle.blink_live.proofs.table.MapsWithOneChange.{put_here, put_same}
+use Rattle.blink_live.proofs.table.SparesOfSeats.{spare_still}
 
 -- a seat that reads the same agrees with the same stocks
 pub same_reader : (stock : Stock) (v w : View) → w.reads ≡ v.reads → w.look.leaves ≡ v.look.leaves → w.place ≡ v.place → w.busy ≡ v.busy → AgreesWith stock v → AgreesWith stock w
@@ -57,7 +59,7 @@ reuse_moves plan whose words views id v stock at safe same_aside out agree =
       reads_theirs = λ seat u differ there. same_reader u.stock v w refl refl refl refl (safe.agree seat id u v there at);
     }
 
-module _ (plan : Plan) (s : State ℕ View) (tree_state : TreeState) (h : IsTableAt plan s tree_state) (id word : ℕ) (v : View) (stock : Stock) (at : get_elem? s.views id ≡ some v) (role : v.role ≡ Pass) where
+module _ (plan : Plan) (s : State ℕ View) (tree_state : TreeState) (h : IsTableAt plan s tree_state) (id word : ℕ) (v : View) (stock : Stock) (at : get_elem? s.views id ≡ some v) (role : v.role ≡ Pass) (same_spare : stock.spare ≡ v.stock.spare) where
   abbrev w : View
   w = with_stock v stock
 
@@ -77,6 +79,7 @@ module _ (plan : Plan) (s : State ℕ View) (tree_state : TreeState) (h : IsTabl
           others = known.for_call.others;
           numbers = record { in_range = known.for_call.numbers.in_range; own = known.for_call.numbers.own; free = known.for_call.numbers.free };
         };
+        spare = subst (λ (spare : Span). HasSpare plan h.owners (moved tree_state id v.operation) (suc id) spare v.pages.next v.call.pages) (sym same_spare) (spare_still plan h.owners h.owners tree_state (moved tree_state id v.operation) (suc id) v.stock.spare v.pages.next v.call.pages known.spare (λ n own. own) (λ n none. none));
         share = known.share;
         saw = known.saw;
         heard = known.heard;

@@ -21,6 +21,7 @@ use Rattle.blink_live.proofs.reuse.ReuseStaysSafe.{MayReadOn, hand_stays, reuse_
 use Rattle.blink_live.proofs.table.AccountsStay.{account, accounts_stay, still_saw}
 use Rattle.blink_live.proofs.table.SeatsThatStay.{at_inside, views_stay, counted_stays}
 use Rattle.blink_live.proofs.table.CallsOfSeats.{call_still}
+use Rattle.blink_live.proofs.table.SparesOfSeats.{spare_still}
 
 -- the tree state where one worker has another operation, or none
 abbrev pub moved : TreeState → ℕ → Option PlainMachine → TreeState
@@ -44,6 +45,7 @@ module _ (plan : Plan) (s : State ℕ View) (tree_state : TreeState) (h : IsTabl
         numbers = record { in_range = known.numbers.in_range; own = known.numbers.own; free = known.numbers.free };
         for_call = call_still plan h.owners h.owners s.words tree_state (moved tree_state id w.operation) (suc id) v.call v.rows.next v.pages.next v.rows.next v.pages.next known.for_call (omega arith, omega arith) (λ r below own. own)
             (λ n below own. own) (λ n none. none);
+        spare = spare_still plan h.owners h.owners tree_state (moved tree_state id w.operation) (suc id) v.stock.spare v.pages.next v.call.pages known.spare (λ n own. own) (λ n none. none);
         share = known.share;
         saw = saw;
         heard = known.heard;
@@ -89,6 +91,7 @@ module _ (plan : Plan) (s : State ℕ View) (tree_state : TreeState) (h : IsTabl
             numbers = record { in_range = known.numbers.in_range; own = known.numbers.own; free = known.numbers.free };
             for_call = call_still plan h.owners h.owners s.words tree_state (moved tree_state id w.operation) (suc j) u.call u.rows.next u.pages.next u.rows.next u.pages.next known.for_call (omega arith, omega arith) (λ r below own. own)
                 (λ n below own. own) (λ n none. none);
+            spare = spare_still plan h.owners h.owners tree_state (moved tree_state id w.operation) (suc j) u.stock.spare u.pages.next u.call.pages known.spare (λ n own. own) (λ n none. none);
             share = known.share;
             saw = known.saw;
             heard = known.heard;

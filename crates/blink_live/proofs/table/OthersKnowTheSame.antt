@@ -1,6 +1,7 @@
 -- A step of one seat leaves what the others know.
-use Rattle.std.proofs.Common.{◌≡◌, ◌≢◌, ℕ, suc, ◌+◌, ◌<◌, ◌≤◌, Option, Some, None, List, sym, ap, ◌∙◌, arith}
+use Rattle.std.proofs.Common.{◌≡◌, ◌≢◌, ℕ, suc, ◌+◌, ◌<◌, ◌≤◌, Option, Some, None, List, inl, inr, sym, ap, ◌∙◌, arith}
 use Rattle.std.specs.Prelude.{slice_index}
+use Rattle.std.proofs.lemmas.Bool.{cases_lt}
 use mathlib.Core.Option.{some, some-injective}
 use native.Mathlib.Decide.{dec_le}
 use mathlib.Core.List.{IsPrefix}
@@ -21,7 +22,7 @@ use Rattle.blink_live.specs.declared.view.Share.{Share}
 use Rattle.blink_live.specs.declared.view.View.{View}
 use Rattle.blink_live.specs.Changes.{after, states_of}
 use Rattle.blink_live.specs.Looks.{IsLeafInChain}
-use Rattle.blink_live.specs.Rule.{HasNothing, HasPool, Owners, IsPublished, PageWordIs, Reads, ReadsRow, HasRows, HasNumbers, HasForCall, IsShare, IsInRole, Knows, IsTableAt}
+use Rattle.blink_live.specs.Rule.{HasNothing, HasPool, Owners, IsPublished, PageWordIs, Reads, ReadsRow, HasRows, HasNumbers, HasForCall, HasSpare, IsShare, IsInRole, Knows, IsTableAt}
 use Rattle.blink_live.specs.Views.{IsCommon, IsOwned, span}
 use Rattle.blink_live.specs.Words.{place_word, row_start, RowBegins}
 use Rattle.blink_live.proofs.table.LooksStay.{looks_stay}
@@ -104,6 +105,18 @@ module _ (plan : Plan) (s : State ℕ View) (tree_state then : TreeState) (h : I
       numbers = numbers_still v.call.pages (λ common first. (none common first).3) has.numbers;
     }
 
+    -- the host has no spare numbers
+    spare_stays : (v : View) → HasSpare plan h.owners tree_state (suc seat) v.stock.spare v.pages.next v.call.pages → HasSpare plan new then (suc seat) v.stock.spare v.pages.next v.call.pages
+    spare_stays v has = record {
+      numbers = numbers_still v.stock.spare (λ common first. elim (cases_lt v.stock.spare.next v.stock.spare.stop) [
+        | inl less ↦ let later = has.sessions less in absurd (omega (arith, later, first))
+        | inr none ↦ omega (arith, none)
+      ]) has.numbers;
+      sessions = has.sessions;
+      before = has.before;
+      apart = has.apart;
+    }
+
   -- where a seat owns a key, passes own the keys
   owned : (owner key : ℕ) → 1 ≤ owner → h.owners.key key ≡ owner → IsOwned plan
   owned owner key some_owner own = elim (dec_le 1 plan.places) [
@@ -156,6 +169,7 @@ module _ (plan : Plan) (s : State ℕ View) (tree_state then : TreeState) (h : I
         rows = rows_still seat other v.rows (λ common first. (none common first).0) known.rows;
         numbers = numbers_still seat other v.pages (λ common first. (none common first).1) known.numbers;
         for_call = call_stays seat other v none known.for_call;
+        spare = spare_stays seat other v known.spare;
         share = share_still (suc seat) v.share (omega arith) (λ e. other (omega (arith, e))) known.share;
         saw = leaves.longer v.seen known.saw;
         heard = leaves.longer v.told known.heard;

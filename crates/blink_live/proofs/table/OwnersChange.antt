@@ -18,6 +18,7 @@ use Rattle.blink_live.specs.Rule.{HasPool, Owners, PageWordIs, latch_word, Reads
 use Rattle.blink_live.specs.Views.{IsCommon}
 use Rattle.blink_live.proofs.table.CallsOfSeats.{call_still}
 use Rattle.blink_live.proofs.table.LooksStay.{looks_stay}
+use Rattle.blink_live.proofs.table.SparesOfSeats.{spare_still}
 
 -- what was published is
 abbrev pub StaysPublished : Owners → Owners → Type 0
@@ -66,6 +67,7 @@ module _ (plan : Plan) (old new : Owners) (words : List ℕ) (log : List Change)
     rows = record { in_range = known.rows.in_range; own = λ row low high. owns.row row (known.rows.own row low high) };
     numbers = record { in_range = known.numbers.in_range; own = λ number low high. owns.page number (known.numbers.own number low high); free = known.numbers.free };
     for_call = call_still plan old new words tree_state tree_state (suc seat) v.call v.rows.next v.pages.next v.rows.next v.pages.next known.for_call (omega arith, omega arith) (λ r below. owns.row r) (λ n below. owns.page n) (λ n none. none);
+    spare = spare_still plan old new tree_state tree_state (suc seat) v.stock.spare v.pages.next v.call.pages known.spare owns.page (λ n none. none);
     share = share_still (suc seat) (suc seat) v.share owns.key known.share;
     saw = known.saw;
     heard = known.heard;

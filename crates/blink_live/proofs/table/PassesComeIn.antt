@@ -19,6 +19,7 @@ use Rattle.blink_live.proofs.table.PassesOut.{passes_role}
 use Rattle.blink_live.proofs.table.SeatsThatStay.{at_put, views_stay}
 use Rattle.blink_live.proofs.table.CallsOfSeats.{call_still}
 use Rattle.blink_live.proofs.table.SpentSeats.{spent_knows}
+use Rattle.blink_live.proofs.table.SparesOfSeats.{spare_still}
 
 -- the keeper with one more pass back, and with these keys taken, these shares and these changes seen
 abbrev pub takes_in : View → List ℕ → List Share → List Change → View
@@ -127,6 +128,7 @@ module _ (plan : Plan) (some_number : 1 ≤ plan.counts.numbers) (s : State ℕ 
       rows = record { in_range = known.rows.in_range; own = known.rows.own };
       numbers = record { in_range = known.numbers.in_range; own = known.numbers.own; free = known.numbers.free };
       for_call = call_still plan old new s.words tree_state tree_state (suc id) v.call v.rows.next v.pages.next v.rows.next v.pages.next known.for_call (omega arith, omega arith) (λ r below own. own) (λ n below own. own) (λ n none. none);
+      spare = spare_still plan old new tree_state tree_state (suc id) v.stock.spare v.pages.next v.call.pages known.spare (λ n own. own) (λ n none. none);
       share = share_still plan old new s.words h.log published (suc id) (suc id) v.share
           (λ key is. key_else key (suc id) is (λ e. apart (omega (arith, e)))) known.share;
       saw = saw;

@@ -5,9 +5,10 @@ use Rattle.blink_machine.specs.TreeState.{TreeState}
 use Rattle.blink_live.specs.declared.view.Change.{Change}
 use Rattle.blink_live.specs.declared.view.Plan.{Plan}
 use Rattle.blink_live.specs.Rule.{Owners, Knows}
-use Rattle.blink_live.specs.Views.{spent}
+use Rattle.blink_live.specs.Views.{span, spent}
 use Rattle.blink_live.proofs.table.CallsOfSeats.{nothing_for_call}
 use Rattle.blink_live.proofs.table.LooksStay.{nothing_noted}
+use Rattle.blink_live.proofs.table.SparesOfSeats.{no_spare}
 
 pub spent_knows : (plan : Plan) (owners : Owners) (words : List ℕ) (tree_state : TreeState) (log : List Change) (seat : ℕ) (told : List Change) → 1 ≤ plan.counts.numbers → tree_state.machines seat ≡ None → IsPrefix told log
     → Knows plan owners words tree_state log seat (record (spent plan) { told = told })
@@ -26,6 +27,7 @@ spent_knows plan owners words tree_state log seat told some_number idle heard = 
     free = λ number low high. absurd (omega (arith, low, high));
   };
   for_call = nothing_for_call plan owners words tree_state (suc seat) 1 1 (omega arith) (omega arith) some_number;
+  spare = no_spare plan owners tree_state (suc seat) 1 (span 1 1) some_number;
   share = λ key has. absurd (let inside = has.1 in omega (arith, inside));
   saw = (log, refl);
   heard = heard;

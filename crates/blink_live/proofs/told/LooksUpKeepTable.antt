@@ -34,6 +34,7 @@ forgets plan owners words tree_state log id v known = record {
   rows = known.rows;
   numbers = known.numbers;
   for_call = known.for_call;
+  spare = known.spare;
   share = known.share;
   saw = known.saw;
   heard = (log, refl);

@@ -90,6 +90,7 @@ module _ (plan : Plan) (some_number : 1 ≤ plan.counts.numbers) (s : State ℕ 
           rows = was.rows;
           numbers = was.numbers;
           for_call = was.for_call;
+          spare = was.spare;
           share = was.share;
           saw = was.saw;
           heard = its.heard;

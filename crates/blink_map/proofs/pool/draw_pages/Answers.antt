@@ -1,5 +1,6 @@
-use Rattle.std.proofs.Common.{◌-◌, arith}
+use Rattle.std.proofs.Common.{◌-◌, ◌<◌, ◌≤◌, ⊎_elim, inl, inr, arith}
 use Rattle.blink_live.specs.Allowed.{length_of}
+use Rattle.blink_live.specs.Reuse.{IsWithin}
 use Rattle.blink_map.proofs.PartsOfThePool.{part_of_all, part_of_fewer}
 use Rattle.blink_map.proofs.pool.draw_pages.Goals as goal
 
@@ -22,3 +23,13 @@ returns-then-exchange_pages-clause-part c =
     let end = c.pages_in_pool-left.ensures.end in
     part_of_fewer live.counts.numbers live.places c.args.least c.args.least (length_of c.in_ok-drawn.drawn) _ (omega arith) (omega arith)
     (part_of_all (length_of left) live.counts.numbers live.places c.args.least (length_of c.in_ok-drawn.drawn) c.requires.common (omega (arith, end)) c.in_ok-drawn.ensures.part)
+
+pub returns-then-join_pages-clause-none_lost : goal.returns-then-join_pages-clause-none_lost
+returns-then-join_pages-clause-none_lost c number has = ⊎_elim
+    (λ (its : IsWithin c.args.has number). let joined = c.if-left-has.true in let first = c.in_ok-more.ensures.first in let some = c.in_ok-more.ensures.some in inl (its.0, omega (arith, its, joined, first, some)))
+    (λ (beside : IsWithin c.args.spare number). inr beside) has
+
+pub returns-then-exchange_pages-clause-none_lost : goal.returns-then-exchange_pages-clause-none_lost
+returns-then-exchange_pages-clause-none_lost c number has = ⊎_elim
+    (λ (its : IsWithin c.args.has number). inr its)
+    (λ (beside : IsWithin c.args.spare number). absurd (let none = c.if-spare.false in omega (arith, none, beside))) has

@@ -39,6 +39,6 @@ returns-clause-shelved c =
       subst (λ (p : Plan). IsCommon p) (sym (ap (λ (x : SeatState). x.0.plan) (freed c))) shelved.0,
       ap (λ (x : SeatState). x.0.stock) (freed c)
           ∙ (ap (λ (x : Stock). let y : Stock = record x { free = row ∷ x.free } in y) shelved.1
-          ∙ ap (λ (rows : List ℕ). let y : Stock = record { free = rows; retired = reverse c.args.shelf.now.retired.items; waiting = reverse c.args.shelf.now.waiting.items; before = c.args.shelf.now.before.items; passed = c.args.shelf.now.passed; aside = no_aside } in y)
+          ∙ ap (λ (rows : List ℕ). let y : Stock = record { free = rows; retired = reverse c.args.shelf.now.retired.items; waiting = reverse c.args.shelf.now.waiting.items; before = c.args.shelf.now.before.items; passed = c.args.shelf.now.passed; aside = no_aside; spare = c.args.shelf.now.spare } in y)
           (put_on c.push.result row c.args.shelf.now.free.items c.push.new.self.items c.if-is_err.ensures.value c.push.ensures.items)),
     )

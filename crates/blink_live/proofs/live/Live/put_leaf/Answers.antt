@@ -46,7 +46,7 @@ returns-in-Some c = λ first writes.
     let three = c.put_rows_back.ensures.same in
     let room = c.lend.ensures.same_room in
     let then = c.keep_out.ensures.same_room in
-    on.after_write_page is (three.0 ∙ (two.0 ∙ one.0), three.1 ∙ (two.1 ∙ one.1)) true number (record (takes_out out (takes_in me.0 row lent.rest).stock) { aside = no_aside }) c.keep_out.new.room refl back
+    on.after_write_page is (three.0 ∙ (two.0 ∙ one.0), three.1 ∙ (two.1 ∙ one.1)) true number (record (takes_out out (takes_in me.0 row lent.rest).stock) { aside = no_aside }) refl c.keep_out.new.room refl back
     (then.rows ∙ (room.rows ∙ is.room_is.0)) (then.pages ∙ room.pages) (then.latch_number ∙ room.latch_number) c.keep_out.ensures.shelved (c.in-Some.ensures.one_less ∙ ap suc (sym c.keep_out.ensures.same_free)) (λ count has. c.keep_out.ensures.space count (c.lend.ensures.space (suc count) has))
 
 pub write_leaf-out-requires-2-clause-can : goal.write_leaf-out-requires-2-clause-can
@@ -83,5 +83,5 @@ returns c = λ first writes.
     let two = c.write_leaf-out-2.ensures.same in
     let room = c.lend.ensures.same_room in
     let then = c.keep_out-2.ensures.same_room in
-    on.after_write_page is (two.0 ∙ one.0, two.1 ∙ one.1) false number (takes_out out me.0.stock) c.keep_out-2.new.room refl does
+    on.after_write_page is (two.0 ∙ one.0, two.1 ∙ one.1) false number (takes_out out me.0.stock) refl c.keep_out-2.new.room refl does
     (then.rows ∙ ((λ i. span ((room.rows i).next + 1) (room.rows i).stop) ∙ on.first_row_used is)) (then.pages ∙ room.pages) (then.latch_number ∙ room.latch_number) c.keep_out-2.ensures.shelved c.in_default.ensures.none_free (λ count has. c.keep_out-2.ensures.space count (c.lend.ensures.space (suc count) has))

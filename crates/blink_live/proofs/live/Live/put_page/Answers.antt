@@ -35,7 +35,7 @@ returns-in-Some-clause-under_way c op first is =
     let three = c.put_rows_back.ensures.same in
     let room = c.lend.ensures.same_room in
     let then = c.keep_out.ensures.same_room in
-    on.after_write_page is (three.0 ∙ (two.0 ∙ one.0), three.1 ∙ (two.1 ∙ one.1)) true c.args.number (record (takes_out out (takes_in me.0 row lent.rest).stock) { aside = no_aside }) c.keep_out.new.room c.write_page-out.ensures.machine back
+    on.after_write_page is (three.0 ∙ (two.0 ∙ one.0), three.1 ∙ (two.1 ∙ one.1)) true c.args.number (record (takes_out out (takes_in me.0 row lent.rest).stock) { aside = no_aside }) refl c.keep_out.new.room c.write_page-out.ensures.machine back
     (then.rows ∙ (room.rows ∙ is.room_is.0)) (then.pages ∙ room.pages) (then.latch_number ∙ room.latch_number) c.keep_out.ensures.shelved (c.in-Some.ensures.one_less ∙ ap suc (sym c.keep_out.ensures.same_free)) (λ count has. c.keep_out.ensures.space count (c.lend.ensures.space (suc count) has))
 
 pub overflow_add-room : goal.overflow_add-room
@@ -56,7 +56,7 @@ returns-clause-under_way c op first is =
     let two = c.write_page-out-2.ensures.same in
     let room = c.lend.ensures.same_room in
     let then = c.keep_out-2.ensures.same_room in
-    on.after_write_page is (two.0 ∙ one.0, two.1 ∙ one.1) false c.args.number (takes_out out me.0.stock) c.keep_out-2.new.room c.write_page-out-2.ensures.machine does
+    on.after_write_page is (two.0 ∙ one.0, two.1 ∙ one.1) false c.args.number (takes_out out me.0.stock) refl c.keep_out-2.new.room c.write_page-out-2.ensures.machine does
     (then.rows ∙ ((λ i. span ((room.rows i).next + 1) (room.rows i).stop) ∙ on.first_row_used is)) (then.pages ∙ room.pages) (then.latch_number ∙ room.latch_number) c.keep_out-2.ensures.shelved c.in_default.ensures.none_free (λ count has. c.keep_out-2.ensures.space count (c.lend.ensures.space (suc count) has))
 
 pub keep_out-requires-clause-space : goal.keep_out-requires-clause-space

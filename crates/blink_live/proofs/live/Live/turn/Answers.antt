@@ -105,5 +105,5 @@ pub returns-in-WriteNew : goal.returns-in-WriteNew
 returns-in-WriteNew c = record {
   under_way = c.put_new.ensures.under_way;
   waits = tt;
-  nearer = nearer_done _ _ _ (subst TellsNothing (sym (sym c.need.ensures ∙ c.in-WriteNew.is)) tt) c.put_new.ensures.machine;
+  nearer = nearer_done _ _ _ (subst TellsNothing (sym (sym c.need.ensures ∙ c.in-WriteNew.is)) tt) c.put_new.ensures.machine.1;
 }

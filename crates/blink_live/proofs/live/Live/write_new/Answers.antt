@@ -1,41 +1,65 @@
-use Rattle.std.proofs.Common.{◌≡◌, ◌+◌, ◌*◌, ◌≤◌, length, sym, ap, ◌∙◌, subst, arith}
-use Rattle.blink_batch.specs.{key_of}
-use Rattle.blink_page.specs.{PlainPage}
-use Rattle.blink_page.specs.declared.limits.TheConstants.{MAX_FAN}
-use Rattle.blink_rows.specs.{IsPageRow, page_words}
-use Rattle.blink_rows.proofs.Offered.{length-page_words}
-use Rattle.blink_machine.specs.{page_out}
-use Rattle.blink_live.specs.Seats.{IsFirst}
-use Rattle.blink_live.specs.Views.{MayChange, SeatState}
-use Rattle.blink_live.specs.Words.{BeginWith}
-use Rattle.blink_live.proofs.changed.RowsAreStaged.{words_of_row}
+use Rattle.std.proofs.Common.{◌≡◌, ℕ, suc, ◌+◌, ◌<◌, refl, sym, ap, ◌∙◌, subst, arith}
+use Rattle.blink_rows.specs.declared.span.Span.{Span}
+use Rattle.blink_machine.specs.{done, write_page}
+use Rattle.blink_live.specs.AtomicSteps.{PublishesNew}
+use Rattle.blink_live.specs.Spares.{HasAny, HasExchanged, exchanges, spare_on, with_spare_on}
+use Rattle.blink_live.specs.Views.{SeatState, span}
+use Rattle.blink_live.proofs.changed.NumbersAreSpare.{exchanged_and_back, none_spare, spare_same, spare_twice, writes_exchanged}
 use Rattle.blink_live.proofs.live.Live.write_new.Goals as goal
 
-pub publish_new-requires-clause-seat : goal.publish_new-requires-clause-seat
-publish_new-requires-clause-seat c =
-    let seat = c.requires.can.seat in
-    let staged = c.stage_row.ensures.staged in record {
-      same_table = c.stage_row.ensures.same.0 ∙ seat.same_table;
-      same_plan = ap (λ (x : SeatState). x.0.plan) staged ∙ seat.same_plan;
-      role = ap (λ (x : SeatState). x.0.role) staged ∙ seat.role;
-    }
+pub write_numbered-requires-clause-can : goal.write_numbered-requires-clause-can
+write_numbered-requires-clause-can c = writes_exchanged c.args.self.now c.args.machine.now c.args.row c.args.seat.now c.exchange_spare.new.seat c.exchange_spare.ensures.same c.exchange_spare.ensures.exchanged.is c.requires.can
 
-pub publish_new-requires-clause-at : goal.publish_new-requires-clause-at
-publish_new-requires-clause-at c = ap (λ (x : SeatState). x.0.operation) c.stage_row.ensures.staged ∙ c.requires.can.at
+-- one of the spare numbers is used
+pub returns-then-has_spare-clause-written : goal.returns-then-has_spare-clause-written
+returns-then-has_spare-clause-written c =
+    let me : SeatState = c.args.seat.now.me in
+    let m = c.args.machine.now in
+    let one = c.exchange_spare.ensures.exchanged in
+    let two = c.exchange_spare-then-has_spare.ensures.exchanged in
+    let number : ℕ = me.0.stock.spare.next in
+    let at : c.exchange_spare.new.room.pages.next ≡ number = ap (λ (s : Span). s.next) one.pages in
+    let left : Span = span (suc number) me.0.stock.spare.stop in
+    let rows : Span = span (suc me.0.call.rows.next) me.0.call.rows.stop in
+    let does = subst (λ (x : SeatState). PublishesNew m x c.write_numbered.new.seat.me) one.is c.write_numbered.ensures.published in
+    let some = one.some in (
+      number,
+      c.write_numbered.ensures.machine ∙ ap (done m) at,
+      record {
+        pages = me.0.call.pages;
+        spare = left;
+        published = exchanged_and_back (write_page number) rows left m (done m number) me c.write_numbered.new.seat.me c.exchange_spare-then-has_spare.new.seat.me does two.is;
+        one_less = omega (arith, some);
+        spare_first = λ common more. (refl, some);
+        left = (refl, omega arith, omega arith);
+        same_pages = two.pages ∙ ap (λ (x : SeatState). x.0.stock.spare) does.is;
+        shelf = two.shelf ∙ (ap (λ (x : SeatState). with_spare_on x.0.call.pages c.exchange_spare.new.room.shelf) does.is ∙ (ap (with_spare_on left) one.shelf ∙ spare_twice me.0.call.pages left c.args.room.now.shelf));
+        same = (two.same.0 ∙ one.same.0, two.same.1 ∙ one.same.1);
+      },
+    )
 
-pub publish_new-requires-clause-number : goal.publish_new-requires-clause-number
-publish_new-requires-clause-number c = subst (λ (x : SeatState). IsFirst c.args.number x.0.call.pages) (sym c.stage_row.ensures.staged) c.requires.number
-
-pub publish_new-requires-clause-row : goal.publish_new-requires-clause-row
-publish_new-requires-clause-row c = subst (λ (x : SeatState). IsFirst c.args.row x.0.call.rows) (sym c.stage_row.ensures.staged) c.requires.can.first_row.0
-
-pub publish_new-requires-clause-may : goal.publish_new-requires-clause-may
-publish_new-requires-clause-may c = subst (λ (x : SeatState). MayChange x.0 (key_of c.args.machine.now.op)) (sym c.stage_row.ensures.staged) c.requires.can.may
-
-pub publish_new-requires-clause-staged : goal.publish_new-requires-clause-staged
-publish_new-requires-clause-staged c =
-    let page = page_out c.args.machine.now c.args.number in
-    let many : c.len.result ≡ length page.entries = c.len.ensures.value ∙ ap (λ (p : PlainPage). length p.entries) (c.page.view_is ∙ c.page_out-page.ensures) in
-    let few : length page.entries ≤ MAX_FAN = subst (λ (p : PlainPage). length p.entries ≤ MAX_FAN) (c.page.view_is ∙ c.page_out-page.ensures) c.page.invariant.at_most_fan in
-    subst (λ (x : SeatState). BeginWith x.0.call.staged (page_words page)) (sym c.stage_row.ensures.staged)
-    (words_of_row c.page_row-words.result (page_words page) (6 + 2 * c.len.result) (subst (λ (p : PlainPage). IsPageRow p c.page_row-words.result) c.page_out-page.ensures c.page_row-words.ensures) (omega (arith, length-page_words page, many)) (omega (arith, many, few)))
+-- or none is spare
+pub returns-clause-written : goal.returns-clause-written
+returns-clause-written c =
+    let me : SeatState = c.args.seat.now.me in
+    let m = c.args.machine.now in
+    let number : ℕ = me.0.call.pages.next in
+    let pages = c.requires.pages in
+    let at : c.args.room.now.pages.next ≡ number = ap (λ (s : Span). s.next) pages in
+    let stop = ap (λ (s : Span). s.stop) pages in
+    let some = c.requires.some in
+    let next : c.args.room.now.pages.next + 1 ≡ suc number = omega (arith, at) in (
+      number,
+      c.write_numbered-2.ensures.machine ∙ ap (done m) at,
+      record {
+        pages = span (suc number) me.0.call.pages.stop;
+        spare = me.0.stock.spare;
+        published = c.write_numbered-2.ensures.published;
+        one_less = omega (arith, some, at, stop);
+        spare_first = λ common more. absurd (none_spare c.args.room.now.shelf me.0 c.requires.spare (λ there. let told = c.if-has_spare.ensures.1 there in absurd (cc)) common more);
+        left = (refl, omega arith, omega arith);
+        same_pages = λ i. span (next i) (stop i);
+        shelf = spare_same c.args.room.now.shelf me.0 c.requires.spare;
+        same = (refl, refl);
+      },
+    )

@@ -2,8 +2,11 @@ use Rattle.std.proofs.Common.{refl, ap}
 use Rattle.blink_live.specs.Views.{SeatState}
 use Rattle.blink_map.specs.Changing.{HasComeOut}
 use Rattle.blink_map.proofs.MembersComeBack.{gives, has_changed, is_idle_again, its_end, its_place, its_seat}
-use Rattle.blink_map.proofs.OperationsStart.{come_out}
+use Rattle.blink_map.proofs.OperationsStart.{can_begin, come_out}
 use Rattle.blink_map.proofs.member.Member.change.Goals as goal
+
+pub change_by-changed-requires-clause-can_begin : goal.change_by-changed-requires-clause-can_begin
+change_by-changed-requires-clause-can_begin g c = can_begin c.args.op c.args.self.now c.next_mark.result c.mark_place.new.seat.me c.requires.room c.next_mark.ensures.works c.mark_place.ensures.marked
 
 pub end_of-answer-requires : goal.end_of-answer-requires
 end_of-answer-requires g c = record {

@@ -1,10 +1,12 @@
-use Rattle.std.proofs.Common.{inl, refl, ap, ◌∙◌, subst}
+use Rattle.std.proofs.Common.{inl, refl, sym, ap, ◌∙◌, subst}
 use Rattle.std.specs.Arc.{arc_value}
-use Rattle.blink_map.specs.{HasBegun, HasStopped, IsAnswered, LacksKeyOf}
+use Rattle.blink_map.specs.{HasBegun, HasStopped, IsAnswered, IsSessionOf, LacksKeyOf}
 use Rattle.blink_owners.specs.declared.session_owner.SessionOwner.{SessionOwner}
 use Rattle.blink_owners.specs.declared.shared_map.SharedMap.{SharedMap}
 use Rattle.blink_owners.specs.declared.session_owner.HeldSession.TheVariants.{Free}
+use Rattle.blink_owners.specs.Sessions.{in_map}
 use Rattle.blink_owners.proofs.SessionsGoOn.{not_ended_for_room}
+use Rattle.blink_owners.proofs.SessionsStay.{refused_still}
 use Rattle.blink_owners.proofs.session_owner.SessionOwner.change.Goals as goal
 
 pub returns-in-Ok-clause-answered : goal.returns-in-Ok-clause-answered
@@ -59,3 +61,10 @@ returns-in-Err-Full-clause-refused c =
         unchanged = stopped.2;
       }),
     )
+
+pub returns-in-Err-Full-clause-its_own : goal.returns-in-Err-Full-clause-its_own
+returns-in-Err-Full-clause-its_own c =
+    let before = c.in_ok-session.session in
+    let now = c.in-Err-Full.session in
+    let stopped = subst (HasStopped c.deref.result.now.map c.args.op before) c.in-Err-Full.field-0-is c.in-Err-Full.ensures.stopped in
+    subst (λ (owner : SessionOwner). IsSessionOf (in_map owner) now) (sym c.in_ok-session.ensures.gone) (refused_still (in_map c.args.self.now) c.args.op before now c.in_ok-session.ensures.its_own stopped.2)
