@@ -9,10 +9,10 @@ lib:
 
 # The programs, out/blink and out/blink-show. Each is proved first.
 blink:
-	./blink --help >/dev/null
+	./blink run </dev/null
 
 show:
-	./blink-show --help >/dev/null
+	./blink-show </dev/null >/dev/null
 
 # What links the library, in C and in Rust.
 test:

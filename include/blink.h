@@ -173,7 +173,7 @@ static inline const char *blink_message(int code) {
     case BLINK_MAP_TOO_LARGE: return "the map is too large";
     case BLINK_BAD_SESSIONS: return "a map has 1 to 256 sessions";
     case BLINK_NO_SESSION: return "no place for a session";
-    case BLINK_FULL: return "the map is full";
+    case BLINK_FULL: return "the map is full: close it, compact the index, open a larger map";
     case BLINK_SESSION_MISSING: return "a session or another handle isn't freed";
     case BLINK_ROWS_BUSY: return "rows are on their way back: try again";
     case BLINK_MAP_CLOSED: return "a close of the map has begun";
@@ -553,7 +553,8 @@ static inline void blink_map_room(blink_map *map, uint64_t *rows, uint64_t *page
     __atomic_store_n(&map->at, taken.at, __ATOMIC_RELEASE);
 }
 
-/* Closes the map, and gives the index of its tree: the entries that it was opened with, after all changes of the list. The handle stays,
+/* Closes the map, and gives the index of its tree, in an empty handle: that of the index which the map was opened over is full until it is
+ * freed. The new one has the entries that the map was opened with, after all changes of the list. The handle stays,
  * and is still to be freed. An operation that was under way when its session was freed, and couldn't be ended, has made its change or
  * never makes it. Refused: BLINK_MAP_CLOSED, exactly if the map is closed; BLINK_SESSION_MISSING; BLINK_NO_MEMORY; BLINK_MAP_TOO_LARGE.
  * But for BLINK_MAP_CLOSED the map stays, with all its entries, and the call may be made again; no session may join any more after
@@ -564,8 +565,8 @@ int blink_map_close(blink_map *map, blink_index *out);
 /* Frees the handle. The handles of sessions, and others of the map, may still be used, and are still to be freed. */
 void blink_map_free(blink_map map);
 
-/* Looks any key up: BLINK_FOUND or BLINK_ABSENT, after the changes that the session has seen by the end of the call. Refused:
- * BLINK_PENDING; then nothing changes. */
+/* Looks any key up: the answer is BLINK_FOUND or BLINK_ABSENT, after the changes that the session has seen by the end of the call. It returns
+ * BLINK_DONE in both cases, so `answer` has to be looked at. Refused: BLINK_PENDING; then nothing changes. */
 int blink_session_find(blink_session *session, uint64_t key, blink_answer *answer);
 
 /* Gives the entries whose keys are from `lo` to `hi`, both included, in ascending order, as many as there are places; other places
@@ -585,7 +586,9 @@ int blink_session_scan(blink_session *session, uint64_t lo, uint64_t hi, blink_e
 int blink_session_snapshot(blink_session *session, uint64_t lo, uint64_t hi, uint32_t tries, blink_entry *entries, size_t places,
                            blink_taken *taken);
 
-/* Insert, delete, replace or exchange any key; the last answers as blink_index_exchange does, and no other session changes the key
+/* A thread that may wait takes blink_session_insert_wait and its like, at the end of this file, which have no `tries`. These wait for nobody.
+ *
+ * Insert, delete, replace or exchange any key; the last answers as blink_index_exchange does, and no other session changes the key
  * between the test and the replacement. It returns BLINK_DONE and the answer once the operation has ended, and BLINK_PENDING if it
  * hasn't: then it goes on by blink_session_advance, and until it has ended the session can do nothing else. Tested: that is after
  * `tries` steps in vain, since another session has the page that it wants. Refused: BLINK_FULL, only if the session lacks the room that

@@ -14,6 +14,10 @@ named=$top/out/$name
 
 # Runs the sources unproved, on standard input. It compiles them anew each time.
 try() {
+    if ! command -v rt >/dev/null; then
+        echo "$name: to run its sources the toolchain's program \`rt\` has to be in PATH" >&2
+        exit 1
+    fi
     echo "$name: NOTHING OF THIS RUN IS PROVED: rt try compiles the sources with checks, in one to three minutes, and runs them" >&2
     echo "$name: its limits: 60 seconds and 1 MiB of output; lines after the program's own on standard error are rt try's" >&2
     cd "$top/crates/$crate" && exec rt try -- "$@"

@@ -56,7 +56,7 @@ int main(void) {
     pthread_t threads[THREADS];
     // a request writes a page once or twice; 10,000 users on pages of 16 to 32 entries are some 600 pages
     expect(blink_index_new(32, &index));
-    expect(blink_map_open(&index, 10000, 300000, THREADS, &map));
+    expect(blink_map_open(&index, 3000, 10000, THREADS, &map));
     blink_index_free(index);
     for (int i = 0; i < THREADS; i++) {
         workers[i].random = (uint64_t)i + 1;

@@ -63,7 +63,7 @@ fn main() -> Result<(), Error> {
     // a request writes a page once or twice; 10,000 users on pages of 16 to 32 entries are some 600 pages
     let room = Room {
         pages: 10_000,
-        rows: 300_000,
+        rows: 10_000,
         sessions: THREADS as u32,
     };
     let map = Map::open(&Index::new(32)?, room)?;

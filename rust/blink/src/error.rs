@@ -84,11 +84,11 @@ impl fmt::Display for Error {
             Error::NotYours => f.write_str("the key is not one of this pass's: its own pass has to be asked, or a glance"),
             Error::KeyNotYours(key) => write!(f, "key {key} is not one of the pass's that is to hand it over, or stands twice in the list"),
             Error::Spent => f.write_str("the pass has no insertion, or no deletion, left: give it back, and deal one with more"),
-            Error::Missing => f.write_str("a pass was not given back, or a session was leaked"),
+            Error::Missing => f.write_str("a pass was not given back, and has to be; or a session was leaked, and then the map cannot be closed"),
             Error::Foreign => f.write_str("the pass is of another table, or the session of another map"),
             Error::BadSessions => f.write_str("a map has places for 1 to 256 sessions"),
             Error::NoSession => f.write_str("each place for a session is taken: drop a session, or open the map with more places"),
-            Error::Full => f.write_str("too few page numbers or rows are left: close the map, and open it with more room"),
+            Error::Full => f.write_str("too few page numbers or rows are left: close the map, compact the index, and open a map with more room over it"),
             Error::RowsBusy => f.write_str("rows of the session are on their way back: try again later"),
             Error::Closed => f.write_str("the map is closed"),
         }

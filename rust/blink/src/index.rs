@@ -324,6 +324,7 @@ impl Index {
     /// assert_eq!(index.range(2..).next_back(), Some((5, 50)));
     /// # Ok::<(), blink::Error>(())
     /// ```
+    #[track_caller]
     pub fn range(&self, range: impl RangeBounds<u64>) -> Range<'_> {
         self.read.range(range)
     }
@@ -334,6 +335,7 @@ impl Index {
     }
 
     /// Returns the number of entries whose keys are in the range. It walks the range's leaves.
+    #[track_caller]
     pub fn count(&self, range: impl RangeBounds<u64>) -> usize {
         self.read.count(range)
     }

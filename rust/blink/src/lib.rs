@@ -30,6 +30,20 @@
 //! - [`keys`] makes keys of signed numbers, of floats and of pairs, in their order.
 //! - [`Pending`] is an operation of a pass that has begun and waits for nobody; [`Unfinished`] is one of a session.
 //!
+//! Who comes from a `BTreeMap` finds these under other names, since an insertion here leaves a present key as it is:
+//!
+//! `BTreeMap` | An [`Index`], and a [`Session`] of a map
+//! ---|---
+//! `insert` | `put`, which returns the pointer before; `insert` only inserts
+//! `remove` | `remove(key).pointer()`
+//! `contains_key` | `contains`
+//! `first_key_value`, `last_key_value` | `first`, `last`; of a session `first` alone
+//! `range(..key).next_back()`, `range(key..).next()` | `prev`, `at_least`
+//! `entry` | `update`
+//! `retain(keeps)` | `retain(.., keeps)`
+//! `keys`, `values` | `iter().map(..)`, of a session `range(..).map(..)`
+//! `len` | `len` walks the leaves; of a session `count(..)` does
+//!
 //! A call that takes a range of keys takes each that `BTreeMap::range` takes, and panics where that one does: where the range's start is
 //! above its end, or one key is excluded from both sides.
 //!

@@ -16,7 +16,7 @@ pub struct Room {
     /// Page numbers. A split of a page takes one. An insertion has to have 22 when it begins, and uses none mostly. A session with
     /// fewer draws others from the pool, up to 512, and keeps those that it had left, which it uses first. So no number is lost: when all
     /// is full, each session has at most 21 left, and the pool as many. Splits by one session take 19,979 of 20,000 numbers, 979 of 1,000,
-    /// and 179 of 200 (measured).
+    /// and 179 of 200; by eight that draw by turns 19,834 and 836 (measured).
     pub pages: u32,
     /// Rows, of 560 bytes. Each write of a page takes one. An insertion has to have 44 when it begins, and writes one page mostly;
     /// a deletion, a replacement or an exchange has to have one. The row that a write replaces comes back to its session, once
@@ -157,7 +157,7 @@ impl Map {
     /// was dropped and couldn't be ended has made its change, or never makes it. It is refused with [`Error::Missing`], if a session was
     /// leaked, as by [`std::mem::forget`]; with [`Error::OutOfMemory`]; and with [`Error::TooLarge`] only where such an operation was lost,
     /// and the entries need more pages than there are numbers. Each gives the map back with all its entries, and it can be closed again;
-    /// no session may join any more after the second.
+    /// no session may join any more after the second. `?` drops the map that comes back: who may need it matches.
     pub fn close(self) -> Result<Index, Unclosed> {
         let index = Index::filled(|out| {
             // SAFETY: the handle is full, and locked; `out` is empty.
@@ -212,6 +212,29 @@ impl fmt::Display for Unclosed {
 impl std::error::Error for Unclosed {}
 
 /// The right of one thread to read and change a map. A session that is dropped leaves the map, and its place can be taken again.
+///
+/// A session borrows its map, so a struct can't have both. A worker borrows the map, too, as by [`std::thread::scope`]; or the threads share
+/// it by an `Arc`, and each joins for itself:
+///
+/// ```
+/// use blink::{Index, Map, Room};
+/// use std::sync::Arc;
+///
+/// let map = Arc::new(Map::open(&Index::new(16)?, Room { pages: 5_000, rows: 20_000, sessions: 2 })?);
+/// let workers: Vec<_> = (0..2)
+///     .map(|worker| {
+///         let map = Arc::clone(&map);
+///         std::thread::spawn(move || {
+///             let mut session = map.session().unwrap();
+///             (0..100).for_each(|key| _ = session.put(2 * key + worker, worker).unwrap());
+///         })
+///     })
+///     .collect();
+/// workers.into_iter().for_each(|worker| worker.join().unwrap());
+/// let map = Arc::try_unwrap(map).expect("the threads have ended");
+/// assert_eq!(map.close()?.len(), 200);
+/// # Ok::<(), blink::Error>(())
+/// ```
 ///
 /// An operation that changes the map waits for a page that another session has just then, and yields its thread meanwhile.
 pub struct Session<'map> {
@@ -273,6 +296,7 @@ impl<'map> Session<'map> {
     }
 
     /// Counts the entries whose keys are in the range, by a scan of them: [`LiveRange`] says what it sees of a key that changes meanwhile.
+    #[track_caller]
     pub fn count(&mut self, range: impl RangeBounds<u64>) -> usize {
         self.range(range).count()
     }
@@ -352,7 +376,8 @@ impl<'map> Session<'map> {
     /// ```
     ///
     /// The range borrows its session. A loop that changes the map has a second session for that, which is a place of the room and its part
-    /// of the rows:
+    /// of the rows. What the loop inserts ahead of it the range may report too, so a loop that always inserts ahead needn't end: who moves keys
+    /// takes a [`Session::snapshot`] first, or collects. [`Session::retain`] and a loop by [`Session::next`] need one session alone:
     ///
     /// ```
     /// use blink::{Index, Map, Room};
@@ -366,6 +391,7 @@ impl<'map> Session<'map> {
     /// assert_eq!(reads.range(..).collect::<Vec<_>>(), [(1, 10), (3, 31), (5, 51)]);
     /// # Ok::<(), blink::Error>(())
     /// ```
+    #[track_caller]
     pub fn range(&mut self, range: impl RangeBounds<u64>) -> LiveRange<'_> {
         LiveRange::new(&mut self.handle, sys::blink_session_scan, &range)
     }
@@ -386,6 +412,7 @@ impl<'map> Session<'map> {
     /// assert_eq!(session.snapshot(2..5, 10)?, Some(vec![(3, 30), (4, 40)]));
     /// # Ok::<(), blink::Error>(())
     /// ```
+    #[track_caller]
     pub fn snapshot(&mut self, range: impl RangeBounds<u64>, tries: u32) -> Result<Option<Vec<(u64, u64)>>, Error> {
         snapshot(&mut self.handle, sys::blink_session_snapshot, &range, tries)
     }

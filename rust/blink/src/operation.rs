@@ -30,7 +30,7 @@ impl Op {
     }
 }
 
-/// What an operation found and did.
+/// What an operation found and did. An insertion of a key that is there, say, does nothing: the answer tells.
 ///
 /// ```
 /// use blink::{Answer, Index};

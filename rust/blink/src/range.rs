@@ -108,6 +108,7 @@ impl Parts {
 
 // The entries of a range as all of them were at one time; `None`, if no try succeeded. The handle is full, and of what the call takes;
 // no operation is under way.
+#[track_caller]
 pub(crate) fn snapshot(handle: &mut Handle, call: SnapshotCall, range: &impl RangeBounds<u64>, tries: u32) -> Result<Option<Vec<(u64, u64)>>, Error> {
     let Some((lo, hi)) = first_and_last(range) else {
         return Ok(Some(Vec::new()));
@@ -140,6 +141,7 @@ pub(crate) fn snapshot(handle: &mut Handle, call: SnapshotCall, range: &impl Ran
 /// It reads the tree's leaves from the left, each at one time: what it says of a key is what the changes up to some time leave of
 /// it, and of a greater key those up to that time or a later one. It takes the entries out in parts: 16 first, which takes no memory,
 /// then twice as many each time, up to 256, as long as memory for them is given. A part is read when it is asked for.
+#[must_use = "a range is read as it is iterated over"]
 pub struct LiveRange<'a> {
     handle: &'a mut Handle,
     scan: ScanCall,
@@ -150,6 +152,7 @@ pub struct LiveRange<'a> {
 
 impl<'a> LiveRange<'a> {
     // The handle is full, and of what the call takes; no operation is under way.
+    #[track_caller]
     pub(crate) fn new(handle: &'a mut Handle, scan: ScanCall, range: &impl RangeBounds<u64>) -> LiveRange<'a> {
         LiveRange { handle, scan, range: first_and_last(range), parts: Parts::new() }
     }

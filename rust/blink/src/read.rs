@@ -116,6 +116,7 @@ impl<K: Kind> Read<K> {
         given.into_iter().map(|raw| Answer::of(raw).pointer()).collect()
     }
 
+    #[track_caller]
     pub(crate) fn range(&self, range: impl RangeBounds<u64>) -> Range<'_> {
         Range {
             handle: &self.handle,
@@ -127,6 +128,7 @@ impl<K: Kind> Read<K> {
         }
     }
 
+    #[track_caller]
     pub(crate) fn count(&self, range: impl RangeBounds<u64>) -> usize {
         let Some((lo, hi)) = first_and_last(&range) else { return 0 };
         let mut fitted = 0;
@@ -216,6 +218,7 @@ fn found(call: impl FnOnce(*mut RawEntry) -> bool) -> Option<(u64, u64)> {
 /// takes them out of the index in parts: 16 first, which takes no memory, then twice as many each time, up to 256, as long as memory for
 /// them is given.
 #[derive(Clone)]
+#[must_use = "a range is read as it is iterated over"]
 pub struct Range<'a> {
     // It is full, and of the kind that the calls take.
     handle: &'a UnsafeCell<Handle>,

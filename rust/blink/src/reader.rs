@@ -106,6 +106,7 @@ impl Reader {
 
     /// Returns the entries whose keys are in the range, in ascending order; from its end, as by `rev`, in descending order.
     /// As in a `BTreeMap`, a range whose start is above its end panics.
+    #[track_caller]
     pub fn range(&self, range: impl RangeBounds<u64>) -> Range<'_> {
         self.read.range(range)
     }
@@ -116,6 +117,7 @@ impl Reader {
     }
 
     /// Returns the number of entries whose keys are in the range. It walks the range's leaves.
+    #[track_caller]
     pub fn count(&self, range: impl RangeBounds<u64>) -> usize {
         self.read.count(range)
     }

@@ -207,6 +207,7 @@ impl Pass {
     /// assert_eq!(pass.range(3..).collect::<Vec<_>>(), [(3, 30), (4, 40), (5, 50)]);
     /// # Ok::<(), blink::Error>(())
     /// ```
+    #[track_caller]
     pub fn range(&mut self, range: impl RangeBounds<u64>) -> LiveRange<'_> {
         LiveRange::new(self.handle.get_mut(), sys::blink_pass_scan, &range)
     }
@@ -227,6 +228,7 @@ impl Pass {
     /// assert_eq!(pass.snapshot(3.., 10)?, Some(vec![(3, 30), (4, 40), (5, 50)]));
     /// # Ok::<(), blink::Error>(())
     /// ```
+    #[track_caller]
     pub fn snapshot(&mut self, range: impl RangeBounds<u64>, tries: u32) -> Result<Option<Vec<(u64, u64)>>, Error> {
         snapshot(self.handle.get_mut(), sys::blink_pass_snapshot, &range, tries)
     }

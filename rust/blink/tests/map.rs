@@ -93,13 +93,13 @@ fn scans_at_the_ends_of_the_keys() {
 #[should_panic(expected = "range start is greater than range end: 5 > 2")]
 #[allow(clippy::reversed_empty_ranges)]
 fn an_inverted_range_panics_as_of_a_btreemap() {
-    Index::new(4).unwrap().range(5..2);
+    let _ = Index::new(4).unwrap().range(5..2);
 }
 
 #[test]
 #[should_panic(expected = "range start and end are equal and excluded: 5")]
 fn a_range_that_excludes_its_one_key_twice_panics_as_of_a_btreemap() {
-    Index::new(4).unwrap().range((std::ops::Bound::Excluded(5), std::ops::Bound::Excluded(5)));
+    let _ = Index::new(4).unwrap().range((std::ops::Bound::Excluded(5), std::ops::Bound::Excluded(5)));
 }
 
 // As many as were read and not given are still to come, and once the index has been asked for all of them no more are.
