@@ -23,6 +23,32 @@ pub(crate) struct Two {
     ghost others: { IsSessionOf map other },
 }
 
+// Two sessions of a map, by facts that the prover meets one at a time.
+pub(crate) fn pair_of(map: Map, places: Places, one: Session, other: Session) -> Two
+    requires its_places { map_at places ≡ map }
+    requires ones { IsSessionOf map one }
+    requires others { IsSessionOf map other }
+{
+    Two {
+        map,
+        places,
+        one,
+        other,
+    }
+}
+
+// A session of the map, for which there is a place.
+fn joined(rt: &impl Abort, map: &Map, places: &Places) -> Session
+    requires its_places { map_at places.now ≡ map.now }
+    ensures { IsSessionOf map.now result }
+{
+    let _map = map;
+    let Ok(session) = places.join() else {
+        panic!(rt; "no place")
+    };
+    session
+}
+
 // Which of the two sessions is meant.
 #[derive(Clone, Copy)]
 pub(crate) enum Who {
@@ -46,14 +72,9 @@ impl Two {
         let (map, mut sessions) = Map::open(alloc, index, room).expect(rt, "no map");
         let places = Places::new(alloc, &map).expect(rt, "no places");
         places.leave_all(&mut sessions);
-        let one = places.join().expect(rt, "no place");
-        let other = places.join().expect(rt, "no second place");
-        Two {
-            map,
-            places,
-            one,
-            other,
-        }
+        let one = joined(rt, &map, &places);
+        let other = joined(rt, &map, &places);
+        pair_of(map, places, one, other)
     }
 
     // The session's operation gives this.
@@ -128,13 +149,8 @@ impl Two {
             other,
         } = self;
         places.leave(one);
-        let one = places.join().expect(rt, "no place again");
-        Two {
-            map,
-            places,
-            one,
-            other,
-        }
+        let one = joined(rt, &map, &places);
+        pair_of(map, places, one, other)
     }
 
     pub(crate) fn close(self, alloc: Global) -> Result<Index, MapError> {

@@ -4,7 +4,7 @@ ghost use Rattle.blink_map.specs.{IsPendingOf, IsSessionOf};
 
 use crate::same::{same, same_for};
 use crate::shared::Who::{One, Other};
-use crate::shared::{Two, Who, call, change_of, close};
+use crate::shared::{Two, Who, call, change_of, close, pair_of};
 use crate::story::Act::{AtOnce, Call, InSteps, InsertEach, Interrupt};
 use crate::story::{End, Story, play};
 use blink_batch::{Answer, Op};
@@ -193,21 +193,11 @@ impl Two {
         match who {
             One => {
                 let one = run_in_steps(rt, &map, one, op, expected);
-                Two {
-                    map,
-                    places,
-                    one,
-                    other,
-                }
+                pair_of(map, places, one, other)
             }
             Other => {
                 let other = run_in_steps(rt, &map, other, op, expected);
-                Two {
-                    map,
-                    places,
-                    one,
-                    other,
-                }
+                pair_of(map, places, one, other)
             }
         }
     }
@@ -223,21 +213,11 @@ impl Two {
         match who {
             One => {
                 let one = run_at_once(rt, &map, one, op, answer);
-                Two {
-                    map,
-                    places,
-                    one,
-                    other,
-                }
+                pair_of(map, places, one, other)
             }
             Other => {
                 let other = run_at_once(rt, &map, other, op, answer);
-                Two {
-                    map,
-                    places,
-                    one,
-                    other,
-                }
+                pair_of(map, places, one, other)
             }
         }
     }
