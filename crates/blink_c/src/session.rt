@@ -90,7 +90,8 @@ pub extern "C" fn blink_session_insert(
     answer: &mut RawAnswer,
 ) -> Code
     requires { IsOwnSession session.old.value }
-    ensures { ChangesMap (Insert key pointer) session.old.value session.new.value answer.old answer.new result }
+    ensures { ChangesMap (Insert key pointer)
+        session.old.value session.new.value answer.old answer.new result }
 {
     change(session, Op::Insert(key, pointer), tries, answer)
 }
@@ -104,7 +105,8 @@ pub extern "C" fn blink_session_delete(
     answer: &mut RawAnswer,
 ) -> Code
     requires { IsOwnSession session.old.value }
-    ensures { ChangesMap (Delete key) session.old.value session.new.value answer.old answer.new result }
+    ensures { ChangesMap (Delete key)
+        session.old.value session.new.value answer.old answer.new result }
 {
     change(session, Op::Delete(key), tries, answer)
 }
@@ -119,7 +121,8 @@ pub extern "C" fn blink_session_replace(
     answer: &mut RawAnswer,
 ) -> Code
     requires { IsOwnSession session.old.value }
-    ensures { ChangesMap (Replace key pointer) session.old.value session.new.value answer.old answer.new result }
+    ensures { ChangesMap (Replace key pointer)
+        session.old.value session.new.value answer.old answer.new result }
 {
     change(session, Op::Replace(key, pointer), tries, answer)
 }
@@ -135,7 +138,8 @@ pub extern "C" fn blink_session_exchange(
     answer: &mut RawAnswer,
 ) -> Code
     requires { IsOwnSession session.old.value }
-    ensures { ChangesMap (Exchange key expected pointer) session.old.value session.new.value answer.old answer.new result }
+    ensures { ChangesMap (Exchange key expected pointer)
+        session.old.value session.new.value answer.old answer.new result }
 {
     change(session, Op::Exchange(key, expected, pointer), tries, answer)
 }
@@ -150,7 +154,8 @@ pub extern "C" fn blink_session_delete_exact(
     answer: &mut RawAnswer,
 ) -> Code
     requires { IsOwnSession session.old.value }
-    ensures { ChangesMap (DeleteExact key expected) session.old.value session.new.value answer.old answer.new result }
+    ensures { ChangesMap (DeleteExact key expected)
+        session.old.value session.new.value answer.old answer.new result }
 {
     change(session, Op::DeleteExact(key, expected), tries, answer)
 }

@@ -10,7 +10,6 @@ pub mod RowsTaken
 pub mod UpdatesBegin
 pub mod OwnChangesByKey
 pub mod RowsAreLent
-pub mod NumbersAreSpare
 pub mod CallsWrite
 pub mod StepsOfUpdates
 pub mod UpdatesGoOn

@@ -5,3 +5,4 @@ pub mod RowsWait
 pub mod RowsComeIn
 pub mod RowsAreFreed
 pub mod NumbersAreExchanged
+pub mod NumbersAreSpare

@@ -95,7 +95,8 @@ impl Map {
             → IsSameBesideRoom before session.old → IsAnswered self.now op before session.new answer) }
         ensures refused { IsNone result → (before : Session) → IsSameBesideRoom before session.old
             → LacksKeyOf self.now op before session.new × IsUnchangedBy op before session.new }
-        ensures full { (before : Session) → LacksRoom op before session.old → LacksRoom op before session.new }
+        ensures full { (before : Session) → LacksRoom op before session.old
+            → LacksRoom op before session.new }
         ensures in_all { LacksRoomInAll op session.old → LacksRoomInAll op session.new }
     {
         match op {

@@ -10,7 +10,7 @@ use Rattle.blink_live.specs.Views.{IsCommon, SeatState, no_aside, span, with_spa
 use Rattle.blink_live.specs.Words.{AreNumbersIn}
 use Rattle.blink_live.specs.Updating.{IsUnderWay}
 use Rattle.blink_live.proofs.changed.CallsWrite.{writes_lent, writes_own}
-use Rattle.blink_live.proofs.changed.NumbersAreSpare.{free_beside, shelved_beside, space_beside, spare_of_shelved}
+use Rattle.blink_live.proofs.reuse.NumbersAreSpare.{free_beside, shelved_beside, space_beside, spare_of_shelved}
 use Rattle.blink_live.proofs.changed.RowsAreLent.{lent_and_back}
 use Rattle.blink_live.proofs.changed.UpdatesGoOn as on
 use Rattle.blink_live.proofs.live.Live.put_new.Goals as goal

@@ -4,7 +4,7 @@ use Rattle.blink_machine.specs.{done, write_page}
 use Rattle.blink_live.specs.AtomicSteps.{PublishesNew}
 use Rattle.blink_live.specs.Spares.{HasAny, HasExchanged, exchanges, spare_on, with_spare_on}
 use Rattle.blink_live.specs.Views.{SeatState, span}
-use Rattle.blink_live.proofs.changed.NumbersAreSpare.{exchanged_and_back, none_spare, spare_same, spare_twice, writes_exchanged}
+use Rattle.blink_live.proofs.reuse.NumbersAreSpare.{exchanged_and_back, none_spare, spare_same, spare_twice, writes_exchanged}
 use Rattle.blink_live.proofs.live.Live.write_new.Goals as goal
 
 pub write_numbered-requires-clause-can : goal.write_numbered-requires-clause-can
