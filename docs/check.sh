@@ -189,10 +189,12 @@ sed -n 's/^ *\(BLINK_[A-Z_]*\) = \([1-9][0-9]*\),* .*/\2 \1/p' include/blink.h |
     grep -q "^$number | .*\`$name\`" docs/FORMATS.md || echo "docs/FORMATS.md: no row for code $number, $name"
 done >>"$work/found"
 
-# Pictures: the frames are those of the tour, and the crates those of crates.txt.
+# Pictures: the frames are those of the tour, and the crates those of crates.txt. Those of the tour were made of its pages as they are.
 if command -v python3 >/dev/null; then
     python3 docs/pictures/draw.py check >>"$work/found"
 fi
+(cd examples/tour && sha256sum --check --quiet pictures/SUMS 2>/dev/null) |
+    sed 's|^\([^:]*\):.*|examples/tour/\1: its pictures were made of another page: run examples/tools/see.sh|' >>"$work/found"
 
 # Names: with an underscore, or with capital and small letters. Each stands in some source or file name; this script is none.
 {

@@ -2,8 +2,9 @@
 # Opens the pages of the replays in a browser without a window, 1280 by 800 and 400 by 800, and looks at every frame: nothing may be told
 # on the console, the keys, the slider and the lines must step, no two boxes overlap, all text of a page stands in its box, each arrow
 # ends at a box and crosses none, with keys shortened and as numbers, and each note is of a turn that there is and is read without
-# scrolling, with the tree's beginning below it in the window. Then it makes the pictures in tour/pictures/, of a frame of each page, light and dark, smaller ones where there is python3. Last it
-# prints one page into a file that it throws away.
+# scrolling, with the tree's beginning below it in the window. Then it makes the pictures in tour/pictures/, of a frame of each page, light and dark, smaller ones where there is python3. The file
+# SUMS there tells of which pages they were made, and the check of documents compares it. Last the script prints one page into a file that it
+# throws away.
 #
 #     see.sh [PAGE.html ..]     without a page, those below; of other pages no pictures are made
 #     see.sh --look             looks at those below by both sizes, and makes nothing
@@ -224,6 +225,7 @@ for name in half_a_split overtaking root_grows inner_split; do
     look "$name.html" 400,800
     pictures $name "$(frame_of $name)"
 done
+sha256sum half_a_split.html inner_split.html overtaking.html root_grows.html >pictures/SUMS
 
 # The way in leads to pages that there are.
 grep -o 'href="[^"]*"\|src="[^"]*"\|srcset="[^"]*"' index.html | sed 's/^[a-z]*="//; s/"$//' >"$work/files"
