@@ -8,7 +8,9 @@
 #     bench/beside.sh WORD ..      what the head of beside/src/main.rs names
 set -eu
 here=$(cd "$(dirname "$0")" && pwd)
+write=
 if [ "${1-}" = --write ]; then
+    write=yes
     set -- "$here/README.md" "$here/../README.md" "$here/threads.svg" "$here/figures.tsv"
 fi
 # What only has to be right is built as fast as can be, and what is timed as well as can be.
@@ -19,4 +21,6 @@ esac
 # The library is built for x86-64-v2, so the peers are too.
 # shellcheck disable=SC2086
 RUSTFLAGS='-C target-cpu=x86-64-v2' cargo build --offline --quiet $flags --manifest-path "$here/beside/Cargo.toml"
-exec "$here/beside/target/$build/beside" "$@"
+"$here/beside/target/$build/beside" "$@"
+# Figures that documents quote of the tables.
+[ -z "$write" ] || python3 "$here/../docs/figures.py" write

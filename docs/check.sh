@@ -189,9 +189,11 @@ sed -n 's/^ *\(BLINK_[A-Z_]*\) = \([1-9][0-9]*\),* .*/\2 \1/p' include/blink.h |
     grep -q "^$number | .*\`$name\`" docs/FORMATS.md || echo "docs/FORMATS.md: no row for code $number, $name"
 done >>"$work/found"
 
-# Pictures: the frames are those of the tour, and the crates those of crates.txt. Those of the tour were made of its pages as they are.
+# Pictures: the frames are those of the tour, and the crates those of crates.txt. Figures that are quoted of the tables are those of today's. The
+# tour's pictures were made of its pages as they are.
 if command -v python3 >/dev/null; then
     python3 docs/pictures/draw.py check >>"$work/found"
+    python3 docs/figures.py check >>"$work/found"
 fi
 (cd examples/tour && sha256sum --check --quiet pictures/SUMS 2>/dev/null) |
     sed 's|^\([^:]*\):.*|examples/tour/\1: its pictures were made of another page: run examples/tools/see.sh|' >>"$work/found"

@@ -7,7 +7,7 @@ use crate::{Answer, Error, Index, Op};
 use std::fmt;
 use std::marker::PhantomData;
 use std::ops::{Bound, RangeBounds};
-use std::sync::{Mutex, MutexGuard, PoisonError};
+use std::sync::{Arc, Mutex, MutexGuard, PoisonError};
 use std::thread;
 
 /// What a map has beside its entries, for changes and sessions to come.
@@ -135,13 +135,38 @@ impl Map {
     /// # Ok::<(), Error>(())
     /// ```
     pub fn session(&self) -> Result<Session<'_>, Error> {
+        Ok(Session { handle: self.join()?, _share: None, map: PhantomData })
+    }
+
+    /// Joins the map by a session that owns a share of it, so a struct can have it, a static, or a thread that outlives the function.
+    /// The map can be closed once each such session has been dropped and the `Arc` is the last one. It is refused as [`Map::session`] is.
+    ///
+    /// ```
+    /// use blink::{Error, Index, Map, Room, Session};
+    /// use std::sync::Arc;
+    ///
+    /// struct Orders {
+    ///     by_number: Session<'static>,
+    /// }
+    ///
+    /// let map = Arc::new(Map::open(&Index::new(16)?, Room { pages: 22, rows: 100, sessions: 1 })?);
+    /// let mut orders = Orders { by_number: map.session_owned()? };
+    /// orders.by_number.put(7, 70)?;
+    /// drop(orders);
+    /// let map = Arc::try_unwrap(map).expect("no session is left");
+    /// assert_eq!(map.close()?.get(7), Some(70));
+    /// # Ok::<(), Error>(())
+    /// ```
+    pub fn session_owned(self: &Arc<Map>) -> Result<Session<'static>, Error> {
+        Ok(Session { handle: self.join()?, _share: Some(Arc::clone(self)), map: PhantomData })
+    }
+
+    // The handle of a new session.
+    fn join(&self) -> Result<Handle, Error> {
         let mut handle = Handle::EMPTY;
         // SAFETY: the map's handle is full, and locked; `handle` is empty.
         Error::check(unsafe { sys::blink_map_join_alone(&mut *self.lock(), &mut handle) })?;
-        Ok(Session {
-            handle,
-            map: PhantomData,
-        })
+        Ok(handle)
     }
 
     /// Returns what the map's pool has left, for a look: sessions may draw at any time. What they have drawn and haven't used isn't
@@ -213,8 +238,8 @@ impl std::error::Error for Unclosed {}
 
 /// The right of one thread to read and change a map. A session that is dropped leaves the map, and its place can be taken again.
 ///
-/// A session borrows its map, so a struct can't have both. A worker borrows the map, too, as by [`std::thread::scope`]; or the threads share
-/// it by an `Arc`, and each joins for itself:
+/// A session borrows its map, as a worker does by [`std::thread::scope`]; or it owns a share of a map in an `Arc`, and then the thread or the
+/// struct that has it may outlive the function:
 ///
 /// ```
 /// use blink::{Index, Map, Room};
@@ -223,11 +248,8 @@ impl std::error::Error for Unclosed {}
 /// let map = Arc::new(Map::open(&Index::new(16)?, Room { pages: 5_000, rows: 20_000, sessions: 2 })?);
 /// let workers: Vec<_> = (0..2)
 ///     .map(|worker| {
-///         let map = Arc::clone(&map);
-///         std::thread::spawn(move || {
-///             let mut session = map.session().unwrap();
-///             (0..100).for_each(|key| _ = session.put(2 * key + worker, worker).unwrap());
-///         })
+///         let mut session = map.session_owned().unwrap();
+///         std::thread::spawn(move || (0..100).for_each(|key| _ = session.put(2 * key + worker, worker).unwrap()))
 ///     })
 ///     .collect();
 /// workers.into_iter().for_each(|worker| worker.join().unwrap());
@@ -239,6 +261,8 @@ impl std::error::Error for Unclosed {}
 /// An operation that changes the map waits for a page that another session has just then, and yields its thread meanwhile.
 pub struct Session<'map> {
     handle: Handle,
+    // Dropped after the handle has been freed.
+    _share: Option<Arc<Map>>,
     map: PhantomData<&'map Map>,
 }
 

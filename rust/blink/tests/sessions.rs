@@ -2,7 +2,8 @@
 
 use blink::{Answer, Begun, Error, Index, Left, Map, Op, Room, Session, Reserve};
 use std::collections::BTreeMap;
-use std::thread;
+use std::sync::Arc;
+use std::thread::{self, JoinHandle};
 
 fn map_over(index: &Index, pages: u32, rows: u32, sessions: u32) -> Map {
     Map::open(index, Room { pages, rows, sessions }).unwrap()
@@ -482,4 +483,27 @@ fn each_of_256_sessions_finds_its_part_of_the_room() {
     }
     drop(sessions);
     assert_eq!(map.close().unwrap().len(), 256);
+}
+
+// A thread that outlives the call, with a session that owns a share of the map.
+fn fill(map: &Arc<Map>, from: u64) -> JoinHandle<Session<'static>> {
+    let mut session = map.session_owned().unwrap();
+    thread::spawn(move || {
+        (from..from + 100).for_each(|key| assert_eq!(session.insert(key, 10 * key), Ok(Answer::Inserted)));
+        session
+    })
+}
+
+#[test]
+fn a_session_that_owns_a_share_keeps_its_map() {
+    let map = Arc::new(map_over(&Index::new(8).unwrap(), 500, 2_000, 2));
+    let mut sessions: Vec<_> = [fill(&map, 0), fill(&map, 100)].map(|thread| thread.join().unwrap()).into();
+    assert_eq!(map.session_owned().unwrap_err(), Error::NoSession);
+    let map = Arc::try_unwrap(map).expect_err("two sessions have a share");
+    let mut last = sessions.pop().unwrap();
+    drop(sessions);
+    // the share of the session that is left keeps the map
+    drop(map);
+    assert_eq!((last.get(7), last.get(107)), (Some(70), Some(1_070)));
+    assert_eq!(last.count(..), 200);
 }
