@@ -509,6 +509,20 @@ static inline int blink_map_open(blink_index *index, uint32_t pages, uint32_t ro
     return code;
 }
 
+/* Stores the page numbers and rows that are enough for so many insertions of absent keys into a map over this index, whatever their keys
+ * and their order, by so many sessions, and for any number of other changes. Each leaf of the index may be full and split once; after that
+ * a leaf splits again once half of a page has been inserted into it. Random keys over leaves with some room take about half of the numbers.
+ * What is too large, blink_map_open refuses. */
+static inline void blink_room_for(blink_index *index, uint32_t insertions, uint32_t sessions, uint32_t *pages, uint32_t *rows) {
+    uint64_t half = (blink_index_fan(index) + 1u) / 2; /* so many insertions fill the half that a split leaves */
+    uint64_t leaves = blink_index_pages(index) + insertions / half;
+    /* the levels above, a new root for each level, and what sessions have drawn and not used */
+    uint64_t most_pages = leaves * half / (half - 1) + 21 + 534 * (uint64_t)sessions;
+    uint64_t most_rows = 2 * most_pages + 300 * (uint64_t)sessions;
+    *pages = most_pages < UINT32_MAX ? (uint32_t)most_pages : UINT32_MAX;
+    *rows = most_rows < UINT32_MAX ? (uint32_t)most_rows : UINT32_MAX;
+}
+
 /* Gives one more handle of the map. It takes memory for the handle alone. Refused: BLINK_MAP_CLOSED, if a close of the map has begun;
  * BLINK_NO_MEMORY. */
 static inline int blink_map_share(blink_map *map, blink_map *out);

@@ -537,6 +537,29 @@ static void changes_a_map(void) {
     blink_index_free(index);
 }
 
+// The room for 1,000 insertions, as it is worked out by hand; and 1,000 descending keys fit into it.
+static void has_room_for_its_insertions(void) {
+    blink_index index = {NULL}, closed = {NULL};
+    blink_map map = {NULL};
+    blink_session session = {NULL};
+    blink_answer answer;
+    uint32_t pages = 0, rows = 0;
+    CHECK(blink_index_new(4, &index) == BLINK_DONE);
+    // two insertions fill a half page of four again: 1 + 500 leaves, as many pages above them, 21, and 534 for each session
+    blink_room_for(&index, 1000, 2, &pages, &rows);
+    CHECK(pages == 2091 && rows == 4782);
+    blink_room_for(&index, UINT32_MAX, 256, &pages, &rows);
+    CHECK(pages == UINT32_MAX && rows == UINT32_MAX);
+    blink_room_for(&index, 1000, 1, &pages, &rows);
+    CHECK(blink_map_open(&index, pages, rows, 1, &map) == BLINK_DONE && blink_map_join(&map, &session) == BLINK_DONE);
+    for (uint64_t key = 1000; key > 0; key--) CHECK(blink_session_insert_wait(&session, key, key, &answer) == BLINK_DONE);
+    blink_session_free(session);
+    CHECK(blink_map_close(&map, &closed) == BLINK_DONE && blink_index_len(&closed) == 1000);
+    blink_map_free(map);
+    blink_index_free(closed);
+    blink_index_free(index);
+}
+
 // A change that meets no other session ends at its first call: of 1,600,000 changes of one session none comes back pending. 200,000 puts
 // among them insert, and as many replace.
 static void changes_end_at_once(void) {
@@ -1034,6 +1057,7 @@ int main(int argc, char **argv) {
     hands_keys_over();
     shares_a_table();
     changes_a_map();
+    has_room_for_its_insertions();
     changes_end_at_once();
     refuses_at_a_map();
     refuses_under_way();

@@ -7,9 +7,9 @@
 //! it, which builds a copy of the crate elsewhere.
 //!
 //! ```
-//! use blink::{Index, Map, Room};
+//! use blink::Map;
 //!
-//! let map = Map::open(&Index::new(32)?, Room { pages: 5_000, rows: 20_000, sessions: 2 })?;
+//! let map = Map::with_capacity(1_000, 2)?;
 //! std::thread::scope(|scope| {
 //!     for thread in 0..2 {
 //!         let mut session = map.session().unwrap();

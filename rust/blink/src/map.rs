@@ -29,6 +29,36 @@ pub struct Room {
     pub sessions: u32,
 }
 
+impl Room {
+    /// A room over this index that is enough for so many insertions of absent keys, whatever their keys and their order, by so many sessions,
+    /// and for any number of other changes. Each leaf of the index may be full and split once; after that a leaf splits again once half of a
+    /// page has been inserted into it. Random keys over leaves with some room take about half of the page numbers.
+    ///
+    /// [`Map::open`] refuses a room that is too large, with [`Error::TooLarge`].
+    ///
+    /// ```
+    /// use blink::{Index, Map, Room};
+    ///
+    /// let index = Index::new(16)?;
+    /// let map = Map::open(&index, Room::for_insertions(&index, 1_000, 1))?;
+    /// let mut session = map.session()?;
+    /// for key in 0..1_000 {
+    ///     session.insert(key, key)?;
+    /// }
+    /// # Ok::<(), blink::Error>(())
+    /// ```
+    pub fn for_insertions(index: &Index, insertions: u32, sessions: u32) -> Room {
+        // A split leaves at least so many entries in each half, and so many insertions fill a half again.
+        let half = (u64::from(index.fan()) + 1) / 2;
+        let leaves = u64::from(index.pages()) + u64::from(insertions) / half;
+        // The levels above, a new root for each level, and what sessions have drawn and not used.
+        let pages = leaves * half / (half - 1) + 21 + 534 * u64::from(sessions);
+        let rows = 2 * pages + 300 * u64::from(sessions);
+        let bounded = |number: u64| u32::try_from(number).unwrap_or(u32::MAX);
+        Room { pages: bounded(pages), rows: bounded(rows), sessions }
+    }
+}
+
 /// What a map's pool has left of its room.
 #[derive(Clone, Copy, Debug, PartialEq, Eq, Hash)]
 pub struct Left {
@@ -120,6 +150,25 @@ impl Map {
         Ok(Map {
             handle: Mutex::new(handle),
         })
+    }
+
+    /// Opens an empty map, whose pages have 32 entries at most, with [a room](Room::for_insertions) for so many insertions of absent keys by
+    /// so many sessions, and for any number of other changes. It is refused as [`Map::open`] is.
+    ///
+    /// ```
+    /// use blink::Map;
+    ///
+    /// let map = Map::with_capacity(1_000, 1)?;
+    /// let mut session = map.session()?;
+    /// for key in 0..1_000 {
+    ///     session.put(key, 10 * key)?;
+    /// }
+    /// assert_eq!(session.count(..), 1_000);
+    /// # Ok::<(), blink::Error>(())
+    /// ```
+    pub fn with_capacity(insertions: u32, sessions: u32) -> Result<Map, Error> {
+        let empty = Index::new(32)?;
+        Map::open(&empty, Room::for_insertions(&empty, insertions, sessions))
     }
 
     /// Joins the map. The session has a place until it is dropped. It is refused with [`Error::NoSession`], if each place is taken.

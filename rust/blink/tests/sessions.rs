@@ -507,3 +507,30 @@ fn a_session_that_owns_a_share_keeps_its_map() {
     assert_eq!((last.get(7), last.get(107)), (Some(70), Some(1_070)));
     assert_eq!(last.count(..), 200);
 }
+
+// So many insertions by turns of the sessions, none of which is refused.
+fn fits(index: &Index, insertions: u32, sessions: u32, key: impl Fn(u64) -> u64) {
+    let map = Map::open(index, Room::for_insertions(index, insertions, sessions)).unwrap();
+    let mut sessions: Vec<_> = (0..sessions).map(|_| map.session().unwrap()).collect();
+    for at in 0..insertions as usize {
+        let turn = at % sessions.len();
+        assert_eq!(sessions[turn].insert(key(at as u64), 1), Ok(Answer::Inserted));
+    }
+}
+
+#[test]
+fn a_room_for_insertions_is_enough() {
+    for fan in [4, 5, 16, 32] {
+        for sessions in [1, 5] {
+            let empty = Index::new(fan).unwrap();
+            fits(&empty, 0, sessions, |at| at);
+            fits(&empty, 5_000, sessions, |at| at);
+            fits(&empty, 5_000, sessions, |at| 5_000 - at);
+            fits(&empty, 5_000, sessions, |at| at.wrapping_mul(0x9e37_79b9_7f4a_7c15));
+            // each leaf is full, and one key comes into each
+            let full = Index::from_sorted(fan, (0..2_000).map(|key| (1_000 * key, key))).unwrap();
+            fits(&full, 2_000, sessions, |at| 1_000 * at + 500);
+            fits(&full, 5_000, sessions, |at| 1_000 * (at % 2_000) + 1 + at / 2_000);
+        }
+    }
+}
