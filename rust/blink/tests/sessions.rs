@@ -486,7 +486,7 @@ fn each_of_256_sessions_finds_its_part_of_the_room() {
 }
 
 // A thread that outlives the call, with a session that owns a share of the map.
-fn fill(map: &Arc<Map>, from: u64) -> JoinHandle<Session<'static>> {
+fn fills(map: &Arc<Map>, from: u64) -> JoinHandle<Session<'static>> {
     let mut session = map.session_owned().unwrap();
     thread::spawn(move || {
         (from..from + 100).for_each(|key| assert_eq!(session.insert(key, 10 * key), Ok(Answer::Inserted)));
@@ -497,7 +497,7 @@ fn fill(map: &Arc<Map>, from: u64) -> JoinHandle<Session<'static>> {
 #[test]
 fn a_session_that_owns_a_share_keeps_its_map() {
     let map = Arc::new(map_over(&Index::new(8).unwrap(), 500, 2_000, 2));
-    let mut sessions: Vec<_> = [fill(&map, 0), fill(&map, 100)].map(|thread| thread.join().unwrap()).into();
+    let mut sessions: Vec<_> = [fills(&map, 0), fills(&map, 100)].map(|thread| thread.join().unwrap()).into();
     assert_eq!(map.session_owned().unwrap_err(), Error::NoSession);
     let map = Arc::try_unwrap(map).expect_err("two sessions have a share");
     let mut last = sessions.pop().unwrap();
