@@ -17,4 +17,5 @@ pub mod SharesAreKnown
 pub mod RefusalsTold
 pub mod PoolStays
 pub mod LooksStay
+pub mod RowsAreNamed
 pub mod LeavesStayInChain

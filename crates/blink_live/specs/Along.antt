@@ -5,7 +5,7 @@ use Rattle.atomic_table.specs.Table.{Step}
 use Rattle.blink_batch.specs.{pointer_of}
 use Rattle.blink_page.specs.{PlainPage, IsLawfulPage}
 use Rattle.blink_page.specs.declared.limits.TheConstants.{MAX_FAN}
-use Rattle.blink_rows.specs.{PlainCounts, page_words}
+use Rattle.blink_rows.specs.{PlainCounts, page_words, row_in}
 use Rattle.blink_live.specs.declared.view.Change.{Change}
 use Rattle.blink_live.specs.declared.view.Look.{Look}
 use Rattle.blink_live.specs.declared.view.View.{View}
@@ -17,8 +17,8 @@ use Rattle.blink_live.specs.Words.{IsRowNumber}
 -- the number is that of a leaf which the seat has noted
 pub record IsNotedLeaf (counts : PlainCounts) (look : Look) (number : ℕ) : Type 0 where
   pub in_range : (1 ≤ number) × (number < counts.numbers)
-  pub row : ℕ
-  pub noted : Contains look.leaves (number, row)
+  pub word : ℕ
+  pub noted : Contains look.leaves (number, word)
 
 -- ---- the load of the page word of a leaf that the seat has noted
 
@@ -39,4 +39,4 @@ pub record GoesAlong (me : SeatState) (row : ℕ) (then : SeatState) : Type 0 wh
   pub knows_own : KnowsItsOwn then.0
 
 abbrev pub goes_along : Step ℕ → SeatState → ℕ → SeatState → Type 0
-goes_along st me row then = GoesAlong me row then
+goes_along st me word then = GoesAlong me (row_in word) then

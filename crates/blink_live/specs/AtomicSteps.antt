@@ -7,7 +7,7 @@ use Rattle.blink_batch.specs.declared.Answer.{Answer}
 use Rattle.blink_batch.specs.{answer_at, key_of, pointer_of}
 use Rattle.blink_page.specs.{IsPageNumber, PlainPage, IsLawfulPage, value_at}
 use Rattle.blink_page.specs.declared.limits.TheConstants.{LEVELS, MAX_FAN}
-use Rattle.blink_rows.specs.{page_words, prime_words}
+use Rattle.blink_rows.specs.{page_words, prime_words, row_in}
 use Rattle.blink_rows.specs.declared.limits.TheConstants.{ROW_WORDS}
 use Rattle.blink_rows.specs.declared.span.Span.{Span}
 use Rattle.blink_machine.specs.declared.machine.State.TheVariants.{Going, Ended}
@@ -59,7 +59,7 @@ pub record Begins (op : Op) (me : SeatState) (row : ℕ) (machine : PlainMachine
   pub next : CanGoOn me.0.plan machine
 
 abbrev pub begins : Op → Step ℕ → SeatState → ℕ → SeatState → Type 0
-begins op st me row then = (machine : PlainMachine) × Begins op me row machine then
+begins op st me word then = (machine : PlainMachine) × Begins op me (row_in word) machine then
 
 -- ---- the load of a page word
 
@@ -92,7 +92,7 @@ pub record LoadsPage (m : PlainMachine) (number : ℕ) (me : SeatState) (row : �
   pub knows_own : KnowsItsOwn then.0
 
 abbrev pub loads_page : Step ℕ → SeatState → ℕ → SeatState → Type 0
-loads_page st me row then = (m : PlainMachine) → me.0.operation ≡ Some m → NeedsPage m st.word → (machine : PlainMachine) × LoadsPage m st.word me row machine then
+loads_page st me word then = (m : PlainMachine) → me.0.operation ≡ Some m → NeedsPage m st.word → (machine : PlainMachine) × LoadsPage m st.word me (row_in word) machine then
 
 -- ---- the load of the prime block's page word by an operation under way
 
@@ -126,7 +126,7 @@ pub record LoadsPrime (m : PlainMachine) (me : SeatState) (row : ℕ) (machine :
   pub uses : NeedsNoMore m machine
 
 abbrev pub loads_prime : Step ℕ → SeatState → ℕ → SeatState → Type 0
-loads_prime st me row then = (m : PlainMachine) → me.0.operation ≡ Some m → NeedsPrime m → (machine : PlainMachine) × LoadsPrime m me row machine then
+loads_prime st me word then = (m : PlainMachine) → me.0.operation ≡ Some m → NeedsPrime m → (machine : PlainMachine) × LoadsPrime m me (row_in word) machine then
 
 -- ---- the load of the prime block's page word by a pass that holds a note
 
@@ -281,7 +281,7 @@ abbrev pub PublishesPage : ℕ → ℕ → PlainMachine → SeatState → SeatSt
 PublishesPage number out m me then = Publishes (write_page number) me.0.call.pages (takes_out out me.0.stock) m (done m 0) me then
 
 abbrev pub publishes_page : Step ℕ → SeatState → ℕ → SeatState → Type 0
-publishes_page st me found then = (m : PlainMachine) → me.0.operation ≡ Some m → NeedsWrite m st.word → PublishesPage st.word found m me then
+publishes_page st me found then = (m : PlainMachine) → me.0.operation ≡ Some m → NeedsWrite m st.word → PublishesPage st.word (row_in found) m me then
 
 -- as a new page, with the first page number that the call may use
 abbrev pub PublishesNew : PlainMachine → SeatState → SeatState → Type 0
@@ -295,4 +295,4 @@ abbrev pub PublishesPrime : ℕ → PlainMachine → SeatState → SeatState →
 PublishesPrime out m me then = Publishes write_prime me.0.call.pages (takes_out out me.0.stock) m (done m 0) me then
 
 abbrev pub publishes_prime : Step ℕ → SeatState → ℕ → SeatState → Type 0
-publishes_prime st me found then = (m : PlainMachine) → me.0.operation ≡ Some m → NeedsPrimeWrite m → PublishesPrime found m me then
+publishes_prime st me found then = (m : PlainMachine) → me.0.operation ≡ Some m → NeedsPrimeWrite m → PublishesPrime (row_in found) m me then

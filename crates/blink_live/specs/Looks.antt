@@ -4,6 +4,7 @@ use Rattle.blink_batch.specs.{pointer_of}
 use Rattle.blink_page.specs.{PlainPage, IsKeyOf, value_at}
 use Rattle.blink_rest.specs.{IsMember, Pages}
 use Rattle.blink_rest.specs.Chain.{Cell}
+use Rattle.blink_rows.specs.{row_in}
 use Rattle.blink_machine.specs.{Levels}
 use Rattle.blink_machine.specs.Tree.{IsTree}
 use Rattle.blink_live.specs.declared.view.Change.{Change}
@@ -24,14 +25,14 @@ pub record IsLeafInChain (fan : ℕ) (prime : List ℕ) (pages : Pages) (number 
 abbrev pub TellsAll : (ℕ → Option ℕ) → PlainPage → Type 0
 TellsAll kept leaf = (key : ℕ) → IsKeyOf leaf key → value_at key leaf.entries ≡ kept key
 
--- the row is a published one, which the page word of a leaf named. Once a tree state is marked, the leaf tells what its changes
--- leave, as long as its page word still names the row
-pub record IsNoted (plan : Plan) (whose : ℕ → ℕ) (words : List ℕ) (fan : ℕ) (prime : List ℕ) (pages : Pages) (marked : Option (List Change)) (number row : ℕ) : Type 0 where
+-- the page word of a leaf was this, which names a published row. Once a tree state is marked, the leaf tells what its changes leave,
+-- as long as its page word is still the same
+pub record IsNoted (plan : Plan) (whose : ℕ → ℕ) (words : List ℕ) (fan : ℕ) (prime : List ℕ) (pages : Pages) (marked : Option (List Change)) (number word : ℕ) : Type 0 where
   pub in_range : (1 ≤ number) × (number < plan.counts.numbers)
-  pub row_in_range : IsRowNumber plan.counts row
-  pub unowned : whose row ≡ 0
+  pub row_in_range : IsRowNumber plan.counts (row_in word)
+  pub unowned : whose (row_in word) ≡ 0
   pub in_chain : IsLeafInChain fan prime pages number
-  pub tells : (changes : List Change) → marked ≡ Some changes → slice_index words number ≡ row → (leaf : PlainPage) → pages number ≡ Some leaf → TellsAll (after (pointer_of plan.opening) changes) leaf
+  pub tells : (changes : List Change) → marked ≡ Some changes → slice_index words number ≡ word → (leaf : PlainPage) → pages number ≡ Some leaf → TellsAll (after (pointer_of plan.opening) changes) leaf
 
 abbrev pub HasLooked : Plan → (ℕ → ℕ) → List ℕ → ℕ → List ℕ → Pages → Look → Type 0
-HasLooked plan whose words fan prime pages look = (number row : ℕ) → Contains look.leaves (number, row) → IsNoted plan whose words fan prime pages look.marked number row
+HasLooked plan whose words fan prime pages look = (number word : ℕ) → Contains look.leaves (number, word) → IsNoted plan whose words fan prime pages look.marked number word

@@ -1,5 +1,5 @@
 -- The entries of a table when all its passes are back: the merge of their shares.
-use Rattle.std.specs.Prelude.{◌≡◌, ℕ, Some, List, map, Contains, slice_get, slice_index}
+use Rattle.std.specs.Prelude.{◌≡◌, ℕ, Some, List, map, Contains, slice_get}
 use Rattle.blink_batch.specs.declared.Entry.{Entry}
 use Rattle.blink_batch.specs.{IsAscending, pointer_of}
 use Rattle.blink_rest.specs.{Pages, AreEntries, IsAtRest}
@@ -10,7 +10,7 @@ use Rattle.blink_live.specs.declared.live.Live.{Live}
 use Rattle.blink_live.specs.declared.live.Pass.{Pass}
 use Rattle.blink_live.specs.declared.view.Share.{Share}
 use Rattle.blink_live.specs.Handles.{known_entries, keys_of, share_of, taken_of}
-use Rattle.blink_live.specs.Words.{IsRowNumber, RowBegins, KeepsPages}
+use Rattle.blink_live.specs.Words.{IsRowNumber, RowBegins, KeepsPages, named_row}
 
 -- ---- the merge
 
@@ -29,8 +29,8 @@ shares_of passes = map (λ (pass : Pass). pass.seat.me.0.share) passes
 
 -- page word 0 names a row of this prime block
 pub record KeepsPrime (counts : PlainCounts) (words leftmost : List ℕ) : Type 0 where
-  pub row_in_range : IsRowNumber counts (slice_index words 0)
-  pub row_begins : RowBegins counts words (slice_index words 0) (prime_words leftmost)
+  pub row_in_range : IsRowNumber counts (named_row words 0)
+  pub row_begins : RowBegins counts words (named_row words 0) (prime_words leftmost)
   pub lawful : IsLawfulPrime leftmost
 
 -- the words hold a tree at rest with these entries

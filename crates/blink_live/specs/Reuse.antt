@@ -3,18 +3,19 @@
 use Rattle.std.specs.Prelude.{◌≡◌, ◌≢◌, ◌⊎◌, ℕ, suc, ◌+◌, ◌<◌, ◌≤◌, Some, List, [], ◌∷◌, length, Contains, slice_index}
 use mathlib.Core.Option.{some}
 use lib.ListN.{get_elem?}
-use Rattle.blink_rows.specs.{PlainCounts}
+use Rattle.blink_rows.specs.{PlainCounts, row_in}
 use Rattle.blink_rows.specs.declared.span.Span.{Span}
 use Rattle.blink_live.specs.declared.view.Aside.{Aside}
+use Rattle.blink_live.specs.declared.view.Look.{Look}
 use Rattle.blink_live.specs.declared.view.Plan.{Plan}
 use Rattle.blink_live.specs.declared.view.Role.TheVariants.{Pass}
 use Rattle.blink_live.specs.declared.view.Stock.{Stock}
 use Rattle.blink_live.specs.declared.view.View.{View}
-use Rattle.blink_live.specs.Words.{IsRowNumber}
+use Rattle.blink_live.specs.Words.{IsRowNumber, named_row}
 
 -- no two page words name one row; the first is the prime block's
 abbrev pub AreNamedOnce : PlainCounts → List ℕ → Type 0
-AreNamedOnce counts words = (one other : ℕ) → one < counts.numbers → other < counts.numbers → 1 ≤ slice_index words one → slice_index words one ≡ slice_index words other → one ≡ other
+AreNamedOnce counts words = (one other : ℕ) → one < counts.numbers → other < counts.numbers → 1 ≤ named_row words one → named_row words one ≡ named_row words other → one ≡ other
 
 -- the row was taken out by this seat: nobody stores to it, and no page word names it. `claim` says who took out which row: 0 stands
 -- for nobody, and else a seat's number plus 1
@@ -22,7 +23,7 @@ pub record IsTakenOut (plan : Plan) (whose : ℕ → ℕ) (words : List ℕ) (cl
   pub in_range : IsRowNumber plan.counts row
   pub unowned : whose row ≡ 0
   pub claimed : claim row ≡ suc seat
-  pub not_named : (number : ℕ) → number < plan.counts.numbers → slice_index words number ≢ row
+  pub not_named : (number : ℕ) → number < plan.counts.numbers → named_row words number ≢ row
 
 -- the list has no row twice
 abbrev pub HasEachOnce : List ℕ → Type 0
@@ -62,9 +63,13 @@ pub record HasAside (plan : Plan) (whose : ℕ → ℕ) (seat : ℕ) (v : View) 
   pub own : (row : ℕ) → IsAside v.stock.aside row → whose row ≡ suc seat
   pub apart : (row : ℕ) → IsAside v.stock.aside row → ¬ IsAtHand v row
 
+-- a page word that was noted for a snapshot names the row
+abbrev pub HasNoted : Look → ℕ → Type 0
+HasNoted look row = (number : ℕ) × (word : ℕ) × Contains look.leaves (number, word) × (row_in word ≡ row)
+
 -- the seat reads the row, or has noted it for a snapshot
 abbrev pub HoldsRow : View → ℕ → List ℕ → Type 0
-HoldsRow v row content = (v.reads ≡ Some (row, content)) ⊎ ((number : ℕ) × Contains v.look.leaves (number, row))
+HoldsRow v row content = (v.reads ≡ Some (row, content)) ⊎ HasNoted v.look row
 
 -- what a seat may say of its stock; and while it holds a row, it is a session whose mark says so
 pub record HasStock (plan : Plan) (whose : ℕ → ℕ) (words : List ℕ) (claim : ℕ → ℕ) (seat : ℕ) (v : View) : Type 0 where

@@ -8,7 +8,7 @@ use Rattle.atomic_table.specs.Table.{State}
 use Rattle.blink_batch.specs.declared.Entry.{Entry}
 use Rattle.blink_batch.specs.{pointer_of}
 use Rattle.blink_page.specs.{IsPageNumber, PlainPage}
-use Rattle.blink_rows.specs.{AreBounded, page_words, prime_words}
+use Rattle.blink_rows.specs.{AreBounded, no_records, page_words, prime_words, records_in, row_in}
 use Rattle.blink_rows.specs.declared.span.Span.{Span}
 use Rattle.blink_machine.specs.{PlainMachine, descent_bound, IsMapAt}
 use Rattle.blink_machine.specs.TreeState.{TreeState}
@@ -47,10 +47,16 @@ IsPublished plan owners row = IsRowNumber plan.counts row × (owners.row row ≡
 
 -- ---- page words and latch words
 
--- the page word is 0 if the page doesn't exist; else it names a published row, which begins with the page's words
+-- the word names a row: the row is published, and begins with these words. No record stands behind them
+pub record Names (plan : Plan) (owners : Owners) (words : List ℕ) (word : ℕ) (content : List ℕ) : Type 0 where
+  pub published : IsPublished plan owners (row_in word)
+  pub begins : RowBegins plan.counts words (row_in word) content
+  pub none_behind : records_in word ≡ no_records
+
+-- the page word is 0 if the page doesn't exist; else it names a row with the page's words
 abbrev pub PageWordIs : Plan → Owners → List ℕ → ℕ → Option PlainPage → Type 0
 PageWordIs plan owners words word None = word ≡ 0
-PageWordIs plan owners words word (Some page) = IsPublished plan owners word × RowBegins plan.counts words word (page_words page)
+PageWordIs plan owners words word (Some page) = Names plan owners words word (page_words page)
 
 -- 0, or the latch number of the seat that holds the latch
 abbrev pub latch_word : Owners → Option ℕ → ℕ
@@ -195,7 +201,7 @@ pub record IsTableAt (plan : Plan) (s : State ℕ View) (tree_state : TreeState)
   -- the words
   pub bounded : AreBounded plan.counts
   pub width : length s.words ≡ word_count plan.counts + 8 * plan.places
-  pub prime : IsPublished plan owners (slice_index s.words 0) × RowBegins plan.counts s.words (slice_index s.words 0) (prime_words tree_state.prime)
+  pub prime : Names plan owners s.words (slice_index s.words 0) (prime_words tree_state.prime)
   pub pages : (number : ℕ) → 1 ≤ number → number < plan.counts.numbers → PageWordIs plan owners s.words (slice_index s.words number) (tree_state.pages number)
   pub no_other_page : (number : ℕ) → plan.counts.numbers ≤ number → tree_state.pages number ≡ None
   pub latches : (number : ℕ) → number < plan.counts.numbers → slice_index s.words (plan.counts.numbers + number) ≡ latch_word owners (tree_state.holder number)

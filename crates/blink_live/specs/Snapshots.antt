@@ -7,7 +7,7 @@ use Rattle.blink_batch.specs.declared.Entry.{Entry}
 use Rattle.blink_batch.specs.{IsAscending, pointer_of}
 use Rattle.blink_page.specs.{PlainPage, IsLawfulPage}
 use Rattle.blink_page.specs.declared.limits.TheConstants.{MAX_FAN}
-use Rattle.blink_rows.specs.{PlainCounts, page_words}
+use Rattle.blink_rows.specs.{PlainCounts, page_words, row_in}
 use Rattle.blink_live.specs.declared.snapshot.NotedLeaf.{NotedLeaf}
 use Rattle.blink_live.specs.declared.view.Change.{Change}
 use Rattle.blink_live.specs.declared.view.Look.{Look}
@@ -26,9 +26,9 @@ pub record IsSnapshot (opening : List Entry) (changes : List Change) (lo hi : �
 
 -- ---- the load of the page word of a leaf to which an operation has come
 
--- the seat has noted the row that the page word names; it hasn't marked a tree state since
+-- the seat has noted the page word; it hasn't marked a tree state since
 abbrev pub notes : View → ℕ → ℕ → View
-notes v number row = record v { look = record { leaves = (number, row) ∷ v.look.leaves; marked = None } }
+notes v number word = record v { look = record { leaves = (number, word) ∷ v.look.leaves; marked = None } }
 
 abbrev pub notes_leaf : Step ℕ → SeatState → ℕ → SeatState → Type 0
 notes_leaf st me found then = then ≡ (notes me.0 st.word found, me.1)
@@ -53,14 +53,14 @@ marks_state st me found then = MarksState me then
 abbrev pub reads_again : View → ℕ → List ℕ → View
 reads_again v row words = record v { reads = Some (row, words) }
 
--- the seat reads the page. If it has noted that the page word names this row, the page tells of each of its keys what the changes of
--- the marked tree state leave
-pub record ReadsAgain (number : ℕ) (me : SeatState) (row : ℕ) (then : SeatState) : Type 0 where
+-- the seat reads the page. If it has noted this page word, the page tells of each of its keys what the changes of the marked tree
+-- state leave
+pub record ReadsAgain (number : ℕ) (me : SeatState) (word : ℕ) (then : SeatState) : Type 0 where
   pub page : PlainPage
-  pub is : then ≡ (reads_again me.0 row (page_words page), me.1)
-  pub row_in_range : IsRowNumber me.0.plan.counts row
-  pub lawful : Contains me.0.look.leaves (number, row) → IsLawfulPage MAX_FAN page
-  pub tells : (changes : List Change) → me.0.look.marked ≡ Some changes → Contains me.0.look.leaves (number, row) → TellsAll (after (pointer_of me.0.plan.opening) changes) page
+  pub is : then ≡ (reads_again me.0 (row_in word) (page_words page), me.1)
+  pub row_in_range : IsRowNumber me.0.plan.counts (row_in word)
+  pub lawful : Contains me.0.look.leaves (number, word) → IsLawfulPage MAX_FAN page
+  pub tells : (changes : List Change) → me.0.look.marked ≡ Some changes → Contains me.0.look.leaves (number, word) → TellsAll (after (pointer_of me.0.plan.opening) changes) page
 
 pub record LooksAgain (number : ℕ) (me : SeatState) (found : ℕ) (then : SeatState) : Type 0 where
   pub some : found ≢ 0 → ReadsAgain number me found then
@@ -71,17 +71,17 @@ looks_again st = LooksAgain st.word
 
 -- ---- a seat that takes a snapshot
 
--- the leaf's number is one of a page, and the seat has noted its row if that isn't 0
+-- the leaf's number is one of a page, and the seat has noted its page word if that isn't 0
 pub record IsNotedIn (counts : PlainCounts) (look : Look) (leaf : NotedLeaf) : Type 0 where
   pub in_range : (1 ≤ leaf.number) × (leaf.number < counts.numbers)
-  pub noted : leaf.row ≢ 0 → Contains look.leaves (leaf.number, leaf.row)
+  pub noted : leaf.word ≢ 0 → Contains look.leaves (leaf.number, leaf.word)
 
 abbrev pub AreNotedIn : PlainCounts → Look → List NotedLeaf → Type 0
 AreNotedIn counts look leaves = All (IsNotedIn counts look) leaves
 
 -- what was noted is noted still
 abbrev pub NotesMore : Look → Look → Type 0
-NotesMore old new = (number row : ℕ) → Contains old.leaves (number, row) → Contains new.leaves (number, row)
+NotesMore old new = (number word : ℕ) → Contains old.leaves (number, word) → Contains new.leaves (number, word)
 
 -- the seat knows what it knew, except for what it has noted
 abbrev pub IsSameBesideLook : SeatState → SeatState → Type 0

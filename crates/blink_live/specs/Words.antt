@@ -2,7 +2,7 @@
 use Rattle.std.specs.Prelude.{◌≡◌, ◌⊎◌, ℕ, ◌+◌, ◌-◌, ◌*◌, ◌<◌, ◌≤◌, Some, List, length, slice_index}
 use Rattle.blink_page.specs.{PlainPage}
 use Rattle.blink_rest.specs.{Pages}
-use Rattle.blink_rows.specs.{PlainCounts, page_words}
+use Rattle.blink_rows.specs.{PlainCounts, page_words, row_in}
 use Rattle.blink_page.specs.declared.limits.TheConstants.{MAX_PAGE}
 use Rattle.blink_rows.specs.declared.limits.TheConstants.{ROW_WORDS}
 use Rattle.blink_rows.specs.declared.span.Span.{Span}
@@ -36,6 +36,10 @@ AreRowsIn counts rows = (1 ≤ rows.next) × (rows.stop ≤ counts.rows + 1)
 abbrev pub AreNumbersIn : PlainCounts → Span → Type 0
 AreNumbersIn counts pages = (1 ≤ pages.next) × (pages.stop ≤ counts.numbers) × (counts.numbers ≤ MAX_PAGE + 1)
 
+-- the row that the page word of this number names
+abbrev pub named_row : List ℕ → ℕ → ℕ
+named_row words number = row_in (slice_index words number)
+
 -- the row's words are these, and 0 behind them
 abbrev pub RowIs : PlainCounts → List ℕ → ℕ → List ℕ → Type 0
 RowIs counts words row content = (i : ℕ) → i < ROW_WORDS → slice_index words (row_start counts row + i) ≡ slice_index content i
@@ -56,8 +60,8 @@ IsSameOutside from to old new = (n : ℕ) → (n < from) ⊎ (to ≤ n) → slic
 -- the page word of this number names a row that holds the page
 pub record KeepsPage (counts : PlainCounts) (words : List ℕ) (number : ℕ) (page : PlainPage) : Type 0 where
   pub number_in_range : (1 ≤ number) × (number < counts.numbers)
-  pub row_in_range : IsRowNumber counts (slice_index words number)
-  pub row_begins : RowBegins counts words (slice_index words number) (page_words page)
+  pub row_in_range : IsRowNumber counts (named_row words number)
+  pub row_begins : RowBegins counts words (named_row words number) (page_words page)
 
 -- the words hold each of these pages
 abbrev pub KeepsPages : PlainCounts → List ℕ → Pages → Type 0

@@ -25,7 +25,7 @@ use blink_index::Index;
 use blink_page::{MAX_PAGE, Page, Prime};
 use blink_rest::Rest;
 use blink_rows::layout::{COUNT, ENTRY_WORDS};
-use blink_rows::{Counts, HEAD_WORDS, ROW_WORDS, row_page, row_prime};
+use blink_rows::{Counts, HEAD_WORDS, ROW_WORDS, row_in, row_page, row_prime};
 use blink_store::{Store, StoreError};
 use std::alloc::{AllocError, Global};
 use std::marker::Brand;
@@ -139,7 +139,7 @@ pub(crate) fn prime_at(closed: &Closed<u8, Global>, counts: &Counts) -> Prime
     ensures { (leftmost : List ℕ) → KeepsPrime counts.now (slots_items closed.now.words) leftmost
         → result ≡ leftmost }
 {
-    let row = closed.word(0);
+    let row = row_in(closed.word(0));
     let start = counts.row_start(row) as usize;
     let levels = closed.word(start + COUNT) as usize;
     let words = row_words(closed, start, HEAD_WORDS + levels);
@@ -263,7 +263,7 @@ pub(crate) fn page_at(closed: &Closed<u8, Global>, counts: &Counts, number: u32)
     requires kept { HasPageAt counts.now (slots_items closed.now.words) number }
     ensures { IsPageAt counts.now (slots_items closed.now.words) number result }
 {
-    let row = closed.word(number as usize);
+    let row = row_in(closed.word(number as usize));
     let start = counts.row_start(row) as usize;
     let count = closed.word(start + COUNT) as usize;
     let words = row_words(closed, start, HEAD_WORDS + ENTRY_WORDS * count);

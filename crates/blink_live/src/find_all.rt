@@ -21,8 +21,8 @@ use crate::view::View;
 use atomic_table::Seat;
 use blink_batch::Answer;
 use blink_page::LEVELS;
-use blink_rows::HEAD_WORDS;
 use blink_rows::layout::{COUNT, ENTRY_WORDS};
+use blink_rows::{HEAD_WORDS, row_in};
 
 // The number of keys that a scout goes down for at once.
 const GROUP: usize = 8;
@@ -176,7 +176,7 @@ impl Live {
         if number >= self.counts.numbers {
             return usize::MAX;
         }
-        let row = self.glimpse(number as usize);
+        let row = row_in(self.glimpse(number as usize));
         if row == 0 || row > self.counts.rows {
             return usize::MAX;
         }

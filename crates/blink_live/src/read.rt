@@ -25,7 +25,7 @@ use blink_batch::Op;
 use blink_machine::{Machine, State};
 use blink_page::{Page, Way};
 use blink_rows::layout::{COUNT, FLOOR, HAS_FLOOR, HIGH_KEY, LEVEL, RIGHT_LINK};
-use blink_rows::{HEAD_WORDS, ROW_WORDS, row_prime};
+use blink_rows::{HEAD_WORDS, ROW_WORDS, row_in, row_prime};
 use std::marker::Brand;
 
 impl Live {
@@ -67,7 +67,7 @@ impl Live {
         (root as u32, levels as u8 - 1)
     }
 
-    // Loads the prime block's page word for an operation that begins.
+    // Loads the prime block's page word for an operation that begins, and returns the row that it names.
     fn load_prime<B: Begun>(&self, seat: &mut Seat<u8, View>, op: Op) -> u64
         requires seat { IsPassSeat self.now seat.old.table_id seat.old.me }
         requires idle { seat.old.me.0.operation ≡ None }
@@ -77,7 +77,7 @@ impl Live {
         ensures same { HasSameNumber seat.old seat.new }
         ensures begun { (machine : PlainMachine) × Begins op seat.old.me result machine seat.new.me }
     {
-        self.table.shared.load::<Begin<B>>(seat, 0)
+        row_in(self.table.shared.load::<Begin<B>>(seat, 0))
     }
 
     // Reads the page that a descending operation needs next, of this number and level. It returns where the key leads from there;
@@ -99,7 +99,8 @@ impl Live {
         ensures way { (at : IsAtPage seat.old.me key number level)
             → ReadsWay at.machine key number result.2 seat.old.me result.0 result.1 seat.new.me }
     {
-        let row = self.table.shared.load::<LoadPage>(seat, number as usize);
+        let word = self.table.shared.load::<LoadPage>(seat, number as usize);
+        let row = row_in(word);
         let (way, kept) = self.way_from(seat, row, level, key, hint);
         (way, kept, row)
     }
@@ -237,7 +238,8 @@ impl Live {
         machine.saw_own_page(page);
     }
 
-    // The step of `read_latched`, for any machine that the view's operation is: the load of the page word.
+    // The step of `read_latched`, for any machine that the view's operation is: the load of the page word. It returns the row that
+    // the word names.
     pub(crate) fn load_latched(&self, seat: &mut Seat<u8, View>, number: u32) -> u64
         requires seat { IsPassSeat self.now seat.old.table_id seat.old.me }
         requires at { (m : PlainMachine) × (seat.old.me.0.operation ≡ Some m) × FitsWords m.op
@@ -248,7 +250,7 @@ impl Live {
         ensures read { (m : PlainMachine) → seat.old.me.0.operation ≡ Some m → NeedsPage m number
             → (machine : PlainMachine) × LoadsPage m number seat.old.me result machine seat.new.me }
     {
-        self.table.shared.load::<LoadPage>(seat, number as usize)
+        row_in(self.table.shared.load::<LoadPage>(seat, number as usize))
     }
 
     // The page whose row the seat reads. Its words aren't tested, since they are a lawful page's.
@@ -321,7 +323,8 @@ impl Live {
         ensures moved { OnTrue result ((prime : List ℕ) × SeesPrime machine.old prime machine.new) }
         ensures waits { OnFalse result (machine.new ≡ machine.old) }
     {
-        let row = self.table.shared.load::<LoadPrime>(seat, 0);
+        let word = self.table.shared.load::<LoadPrime>(seat, 0);
+        let row = row_in(word);
         let words = self.prime_words(seat, row);
         let Some(prime) = row_prime(&words) else {
             unreachable!()

@@ -23,8 +23,8 @@ use crate::view::View;
 use atomic_table::Seat;
 use blink_batch::Entry;
 use blink_page::MAX_FAN;
-use blink_rows::HEAD_WORDS;
 use blink_rows::layout::{COUNT, HIGH_KEY, RIGHT_LINK};
+use blink_rows::{HEAD_WORDS, row_in};
 
 /// How far a scan came.
 #[derive(Clone, Copy, Debug, PartialEq, Eq)]
@@ -179,7 +179,7 @@ impl Live {
         ensures right { IfSome result.1 (IsNotedLeaf self.now.counts seat.new.me.0.look) }
     {
         let (leaf, row) = self.come_to_noted(seat, key);
-        if leaf.row == 0 {
+        if leaf.word == 0 {
             return (row, None);
         }
         if let Some(found) = self.follow(seat, key, leaf.number) {
@@ -219,7 +219,7 @@ impl Live {
         ensures same_table { HasSameNumber seat.old seat.new }
         ensures along { GoesAlong seat.old.me result seat.new.me }
     {
-        self.table.shared.load::<GoAlong>(seat, number as usize)
+        row_in(self.table.shared.load::<GoAlong>(seat, number as usize))
     }
 
     // Copies entries of the leaf that the seat reads: those from `from` on, up to `hi`, and as many as there are places.

@@ -2,11 +2,12 @@
 //!
 //! A snapshot looks twice. First it goes from leaf to leaf as a scan does, and notes each leaf's page word. Then it marks a tree
 //! state by one load. After that it loads each of the page words once more, and copies the entries of the row that it names. Page
-//! words name a row once: whoever changes a page writes it into another row. So a page word that names the same row twice has
-//! named it all the time between, also in the marked state, and the row had the page's entries then. If each leaf's does, the
+//! words name a row once: whoever changes a page writes it into another row. So a page word that is the same twice has been so all
+//! the time between, also in the marked state, and the row that it names had the page's entries then. If each leaf's does, the
 //! entries are those of the marked state. If one doesn't, that leaf was changed meanwhile, and the snapshot tries again.
 ghost use Rattle.std.specs.Prelude.{◌≡◌, ◌≢◌, ◌<◌, ◌≤◌, Some, IfOk, IfSome, IsTrue, Contains};
 ghost use Rattle.blink_page.specs.{IsKeyOf, PlainPage};
+ghost use Rattle.blink_rows.specs.{row_in};
 ghost use Rattle.blink_live.specs.Finding.{HasSearched, IsIdle};
 ghost use Rattle.blink_live.specs.Handles.{IsPassOf, IsSameBesideSeen, KnowsItsKeys, opening_of, seen_of};
 ghost use Rattle.blink_live.specs.Seats.{HasSameNumber, IsAtPage, IsPassSeat, ReadsLeaf, ReadsPage};
@@ -20,14 +21,15 @@ use atomic_table::Seat;
 use blink_batch::{Entry, Op};
 use blink_page::{MAX_FAN, Way};
 use blink_rows::layout::{FLOOR, HAS_FLOOR, HIGH_KEY};
+use blink_rows::row_in;
 use std::alloc::{AllocError, Global};
 
 /// A leaf that a seat has noted for a snapshot.
 #[derive(Clone, Copy)]
 pub struct NotedLeaf {
     pub number: u32,
-    /// The row that the leaf's page word named.
-    pub row: u64,
+    /// The leaf's page word, as it was loaded.
+    pub word: u64,
 }
 
 impl Live {
@@ -176,12 +178,20 @@ impl Live {
                     number = child;
                     level -= 1;
                 }
-                (Way::Here, _, row) => return (NotedLeaf { number, row: noted }, row),
+                (Way::Here, _, row) => {
+                    return (
+                        NotedLeaf {
+                            number,
+                            word: noted,
+                        },
+                        row,
+                    );
+                }
             }
         }
     }
 
-    // Notes the page word that the seat's operation needs next, if it is a leaf's, and returns the row that it names.
+    // Notes the page word that the seat's operation needs next, if it is a leaf's, and returns it.
     fn note_word(&self, seat: &mut Seat<u8, View>, key: u64, number: u32, level: u8) -> u64
         requires seat { IsPassSeat self.now seat.old.table_id seat.old.me }
         requires at { IsAtPage seat.old.me key number level }
@@ -233,7 +243,7 @@ impl Live {
                 return Ok(None);
             }
             let mut copy = [Entry { key: 0, pointer: 0 }; MAX_FAN];
-            let run = self.copy_leaf(seat, leaf.row, from, hi, &mut copy);
+            let run = self.copy_leaf(seat, row_in(leaf.word), from, hi, &mut copy);
             entries.extend_from_slice(&copy[..run.filled])?;
             match run.next {
                 Some(next) => from = next,
@@ -243,7 +253,7 @@ impl Live {
         Ok(None)
     }
 
-    // Loads the leaf's page word once more. Returns whether it still names the row that the seat has noted, and the leaf has the key.
+    // Loads the leaf's page word once more. Returns whether it is still the one that the seat has noted, and the leaf has the key.
     fn read_again(&self, seat: &mut Seat<u8, View>, leaf: NotedLeaf, key: u64) -> bool
         requires seat { IsPassSeat self.now seat.old.table_id seat.old.me }
         requires idle { IsIdle seat.old.me.0 }
@@ -251,14 +261,14 @@ impl Live {
         requires noted { IsNotedIn self.now.counts seat.old.me.0.look leaf }
         ensures same_table { HasSameNumber seat.old seat.new }
         ensures same { IsSameBesideRow seat.old.me seat.new.me }
-        ensures row { IsTrue result → IsRowNumber self.now.counts leaf.row }
-        ensures leaf { IsTrue result → ReadsLeaf key leaf.row seat.new.me }
+        ensures row { IsTrue result → IsRowNumber self.now.counts (row_in leaf.word) }
+        ensures leaf { IsTrue result → ReadsLeaf key (row_in leaf.word) seat.new.me }
     {
-        let row = self.look_again(seat, leaf.number);
-        row != 0 && row == leaf.row && self.has_key(seat, row, key)
+        let word = self.look_again(seat, leaf.number);
+        word != 0 && word == leaf.word && self.has_key(seat, row_in(word), key)
     }
 
-    // Loads the page word of this number, and reads the page of the row that it names.
+    // Loads the page word of this number. The seat reads the page of the row that it names.
     fn look_again(&self, seat: &mut Seat<u8, View>, number: u32) -> u64
         requires seat { IsPassSeat self.now seat.old.table_id seat.old.me }
         requires idle { IsIdle seat.old.me.0 }

@@ -34,7 +34,7 @@ use atomic_table::Seat;
 use blink_batch::{Answer, Op};
 use blink_machine::{Machine, Need, Resting, State};
 use blink_rows::layout::ENTRY_WORDS;
-use blink_rows::{HEAD_WORDS, ROW_WORDS, page_row, prime_row};
+use blink_rows::{HEAD_WORDS, ROW_WORDS, page_row, prime_row, row_in};
 use std::sync::Wait;
 use std::{hint, thread};
 
@@ -525,7 +525,8 @@ impl Live {
             .store::<StoreWord>(seat, start + place, word);
     }
 
-    // Names the row in the page word, and returns the row that it named before. From then on the row holds the page's version.
+    // Names the row in the page word, and returns the row that it named before. From then on the row holds the page's version. A
+    // row's number is the page word that names it and counts no record.
     fn publish(
         &self,
         seat: &mut Seat<u8, View>,
@@ -562,11 +563,11 @@ impl Live {
         ensures published { (m : PlainMachine) → seat.old.me.0.operation ≡ Some m → NeedsWrite m number
             → PublishesPage number result m seat.old.me seat.new.me }
     {
-        let out = self
+        let before = self
             .table
             .shared
             .swap::<Publish>(seat, number as usize, row);
-        out
+        row_in(before)
     }
 
     // Names the row in the page word of a new page. The page's number is the first that the seat's call may use.
@@ -604,9 +605,9 @@ impl Live {
         ensures machine { machine.new ≡ done machine.old 0 }
         ensures published { PublishesPrime result machine.old seat.old.me seat.new.me }
     {
-        let out = self.table.shared.swap::<PublishPrime>(seat, 0, row);
+        let before = self.table.shared.swap::<PublishPrime>(seat, 0, row);
         machine.done(0);
-        out
+        row_in(before)
     }
 }
 

@@ -74,7 +74,7 @@ pub struct Stock {
 
 /// What a seat has noted for a snapshot.
 pub struct Look {
-    /// The numbers of leaves, each with a row that its page word named.
+    /// The numbers of leaves, each with its page word as it was loaded.
     pub leaves: LinkedList<(u64, u64)>,
     /// The changes of all keys up to the tree state that the seat has marked since.
     pub marked: Option<LinkedList<Change>>,

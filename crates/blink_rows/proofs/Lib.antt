@@ -2,4 +2,5 @@ pub mod RowsOfContent
 pub mod EntriesAsWords
 pub mod LawfulParts
 pub mod WhatRowsSay
+pub mod PageWords
 pub mod Offered

@@ -2,7 +2,10 @@
 use crate::fixtures::{same, same_for};
 use arrayvec::ArrayVec;
 use blink_page::{GREATEST_KEY, Page, Prime};
-use blink_rows::{Allowance, Counts, ROW_WORDS, Span, page_row, prime_row, row_page, row_prime};
+use blink_rows::{
+    Allowance, Counts, ROW_WORDS, Records, Span, page_row, page_word, prime_row, records_in, row_in,
+    row_page, row_prime,
+};
 use std::process::Abort;
 
 // A leaf with three entries, a floor and a right neighbour.
@@ -172,4 +175,28 @@ fn are_no_prime_block(rt: &impl Abort, row: &[u64; ROW_WORDS], changes: &[(usize
 fn words_that_are_no_prime_block(rt: HostRuntime) {
     let changes = [(0, 1), (4, 1), (5, 0), (5, 2), (5, 22), (6, 0), (7, 3)];
     are_no_prime_block(&rt, &prime_row(&Prime::new()), &changes);
+}
+
+// The page word names this row and counts records of these kinds.
+fn is_page_word(rt: &impl Abort, word: u64, row: u64, count: u8, kinds: u32) {
+    let records = Records { count, kinds };
+    assert!(rt; row < 8_589_934_592 && count < 16 && kinds < 16_777_216);
+    same_for(rt, &page_word(row, records), &word, &row);
+    same_for(rt, &row_in(word), &row, &word);
+    same_for(rt, &records_in(word), &records, &word);
+}
+
+#[test]
+fn a_page_word_without_records_is_its_row(rt: HostRuntime) {
+    is_page_word(&rt, 0, 0, 0, 0);
+    is_page_word(&rt, 1, 1, 0, 0);
+    is_page_word(&rt, 8_589_934_591, 8_589_934_591, 0, 0);
+}
+
+#[test]
+fn a_page_word_counts_records_above_its_row(rt: HostRuntime) {
+    // one record of kind 2, in row 5: 5 + 2 to the 33 + 2 times 2 to the 37
+    is_page_word(&rt, 283_467_841_541, 5, 1, 2);
+    // twelve of kind 3, in the greatest row: 2 to the 61, less 3 times 2 to the 33, less 1
+    is_page_word(&rt, 2_305_842_983_443_890_175, 8_589_934_591, 12, 16_777_215);
 }

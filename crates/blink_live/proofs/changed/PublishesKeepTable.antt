@@ -29,7 +29,7 @@ use Rattle.blink_live.specs.Looks.{IsLeafInChain}
 use Rattle.blink_live.specs.Reuse.{IsAtHand, IsReuseSafe, IsWithin}
 use Rattle.blink_live.specs.Rule.{IsOwnKey, IsShare, HasNumbers, HasSpare, Knows, IsTableAt, IsTable, PageWordIs}
 use Rattle.blink_live.specs.Views.{IsCommon, IsOwned, MayChange, SeatState, KnowsItsOwn, adds, span, changed_by, publishes, takes_out}
-use Rattle.blink_live.specs.Words.{BeginWith}
+use Rattle.blink_live.specs.Words.{BeginWith, named_row}
 use Rattle.blink_live.proofs.changed.ChangesAreTheMaps.{all_by_author, states_of-append, none_of_other, other_stays, map_is_changed}
 use Rattle.blink_live.proofs.changed.RowsArePublished.{gives_row, IsStepOfTree, ChangesOwn, publish_keeps}
 use Rattle.blink_live.proofs.found.OperationBegins.{goes_on_as}
@@ -278,7 +278,7 @@ rows_after whose seat v w rows call row hand =
 -- in a page's place
 page_becomes_published : (plan : Plan) (s : State ℕ View) (table : IsTable plan s) (id number : ℕ) (me : SeatState) (m : PlainMachine) → get_elem? s.views id ≡ some me.0 → me.0.role ≡ Pass → me.0.operation ≡ Some m → FitsWords m.op
     → NeedsWrite m number → 1 ≤ number → number < plan.counts.numbers → me.0.call.rows.next < me.0.call.rows.stop → BeginWith me.0.call.staged (page_words (page_out m 0)) → MayChange me.0 (key_of m.op)
-    → BecomesPublished plan s id number (write_page number) me.0.call.pages (takes_out (slice_index s.words number) me.0.stock) me m (done m 0)
+    → BecomesPublished plan s id number (write_page number) me.0.call.pages (takes_out (named_row s.words number) me.0.stock) me m (done m 0)
 page_becomes_published plan s table id number me m at role at_m fits needs some_number in_range room is_row may =
     let tree_state : TreeState = table.0 in
     let h : IsTableAt plan s tree_state = table.1 in
@@ -297,7 +297,7 @@ page_becomes_published plan s table id number me m at role at_m fits needs some_
     let places = step_law.places_stay.stay tree_state then id m after_it (Moved (kinds.WritePage number)) h.invariant its stepped in
     let differs : (n : ℕ) → tree_state.pages n ≡ None → n ≢ number = λ n none_there same. let there : tree_state.pages n ≡ Some well.before = ap tree_state.pages same ∙ well.there in cc in
     let way : ℕ = descent_bound then.pages after_it in
-    let out : Stock = takes_out (slice_index s.words number) me.0.stock in
+    let out : Stock = takes_out (named_row s.words number) me.0.stock in
     let tree = tree_written plan s tree_state h id number way me.0 after_it page me.0.call.pages out at role some_number in_range invariant places
     (leaves_stay tree_state then id m after_it h.invariant invariant its workers places (λ n unlinked. absurd (none_after_write m number n needs unlinked))) (λ n not_own none_there. differs n none_there)
     (numbers_else plan s tree_state h id number way me.0 after_it page me.0.call.pages out at role some_number in_range me.0.pages (λ n low high. differs n (known.numbers.free n low high)) known.numbers)
@@ -306,21 +306,21 @@ page_becomes_published plan s table id number me m at role at_m fits needs some_
     (λ n within own none. put_else tree_state.pages number n (Some page) (differs n none) ∙ none)) in
     becomes_published plan s tree_state then h id number (kinds.WritePage number) me.0.call.pages out me m after_it (page_words page) at role (m, at_m) its fits stepped tree in_range room is_row may
     (λ w reads its_role busy place look stock rows call common. page_is_safe plan s tree_state h id number me.0.call.rows.next me.0 w at (h.reuse common) in_range (known.for_call.first_own room).1 reads its_role busy place look (inr (omega arith, room)) (rows_after h.owners.row id me.0 w rows call)
-    (subst (PageWordIs plan h.owners s.words (slice_index s.words number)) well.there (h.pages number some_number in_range)).0 stock)
+    (subst (PageWordIs plan h.owners s.words (slice_index s.words number)) well.there (h.pages number some_number in_range)).published stock)
 
 pub page_is_published : (plan : Plan) (slots id number : ℕ) (me : SeatState) (m : PlainMachine) → me.0.role ≡ Pass → me.0.operation ≡ Some m → FitsWords m.op → NeedsWrite m number
     → 1 ≤ number → number < plan.counts.numbers → me.0.call.rows.next < me.0.call.rows.stop → BeginWith me.0.call.staged (page_words (page_out m 0)) → MayChange me.0 (key_of m.op)
     → Allows (IsTable plan) slots id me number (λ n. me.0.call.rows.next) (λ n. publishes_page (step slots number me.0.call.rows.next 0 none) me n)
 page_is_published plan slots id number me m role at_m fits needs some_number in_range room is_row may s table homes at small =
     let to = page_becomes_published plan s table id number me m at role at_m fits needs some_number in_range room is_row may in
-    let then : SeatState = (publishes me.0 (done m 0) to.way me.0.call.pages to.share to.seen (takes_out (slice_index s.words number) me.0.stock), me.1) in (
+    let then : SeatState = (publishes me.0 (done m 0) to.way me.0.call.pages to.share to.seen (takes_out (named_row s.words number) me.0.stock), me.1) in (
       then.0,
       keeps,
       tt,
       to.table,
       λ k at_k needs_k.
           let same : m ≡ k = cc in
-          subst (λ (j : PlainMachine). PublishesPage number (slice_index s.words number) j me then) same
+          subst (λ (j : PlainMachine). PublishesPage number (named_row s.words number) j me then) same
           record { way = to.way; share = to.share; seen = to.seen; is = refl; learns = to.learns; decided = to.decided; next = to.next; uses = to.uses; answers_at_end = to.answers_at_end; knows_own = to.knows_own; ends_with_own = to.ends_with_own },
     )
 
@@ -388,7 +388,7 @@ grown tree_state prime worker operation = record tree_state { prime = prime; mac
 
 prime_becomes_published : (plan : Plan) (s : State ℕ View) (table : IsTable plan s) (id : ℕ) (me : SeatState) (m : PlainMachine) (prime : List ℕ) → get_elem? s.views id ≡ some me.0 → me.0.role ≡ Pass → me.0.operation ≡ Some m → FitsWords m.op
     → NeedsPrimeWrite m → PrimeOut m prime → 1 ≤ plan.counts.numbers → me.0.call.rows.next < me.0.call.rows.stop → BeginWith me.0.call.staged (prime_words prime) → MayChange me.0 (key_of m.op)
-    → BecomesPublished plan s id 0 write_prime me.0.call.pages (takes_out (slice_index s.words 0) me.0.stock) me m (done m 0)
+    → BecomesPublished plan s id 0 write_prime me.0.call.pages (takes_out (named_row s.words 0) me.0.stock) me m (done m 0)
 prime_becomes_published plan s table id me m prime at role at_m fits needs out some_number room is_row may =
     let tree_state : TreeState = table.0 in
     let h : IsTableAt plan s tree_state = table.1 in
@@ -402,7 +402,7 @@ prime_becomes_published plan s table id me m prime at role at_m fits needs out s
     let invariant = step_law.step_keeps_invariant tree_state then id m after_it (Moved kinds.WritePrime) h.invariant fits its stepped in
     let places = step_law.places_stay.stay tree_state then id m after_it (Moved kinds.WritePrime) h.invariant its stepped in
     let way : ℕ = descent_bound then.pages after_it in
-    let tree : IsStepOfTree plan s tree_state then h id 0 way me.0 after_it (prime_words prime) me.0.call.pages (takes_out (slice_index s.words 0) me.0.stock) at role = record {
+    let tree : IsStepOfTree plan s tree_state then h id 0 way me.0 after_it (prime_words prime) me.0.call.pages (takes_out (named_row s.words 0) me.0.stock) at role = record {
       same_fan = refl;
       same_holder = λ n. refl;
       own = put_here tree_state.machines id (goes_on after_it after_it.state);
@@ -423,21 +423,21 @@ prime_becomes_published plan s table id me m prime at role at_m fits needs out s
       no_other_page = h.no_other_page;
       in_chain = leaves_stay tree_state then id m after_it h.invariant invariant its workers places (λ n unlinked. absurd (none_after_prime m n needs unlinked));
     } in
-    becomes_published plan s tree_state then h id 0 kinds.WritePrime me.0.call.pages (takes_out (slice_index s.words 0) me.0.stock) me m after_it (prime_words prime) at role (m, at_m) its fits stepped tree (omega (arith, some_number)) room is_row may
-    (λ w reads its_role busy place look stock rows call common. page_is_safe plan s tree_state h id 0 me.0.call.rows.next me.0 w at (h.reuse common) (omega (arith, some_number)) (known.for_call.first_own room).1 reads its_role busy place look (inr (omega arith, room)) (rows_after h.owners.row id me.0 w rows call) h.prime.0 stock)
+    becomes_published plan s tree_state then h id 0 kinds.WritePrime me.0.call.pages (takes_out (named_row s.words 0) me.0.stock) me m after_it (prime_words prime) at role (m, at_m) its fits stepped tree (omega (arith, some_number)) room is_row may
+    (λ w reads its_role busy place look stock rows call common. page_is_safe plan s tree_state h id 0 me.0.call.rows.next me.0 w at (h.reuse common) (omega (arith, some_number)) (known.for_call.first_own room).1 reads its_role busy place look (inr (omega arith, room)) (rows_after h.owners.row id me.0 w rows call) h.prime.published stock)
 
 pub prime_is_published : (plan : Plan) (slots id : ℕ) (me : SeatState) (m : PlainMachine) (prime : List ℕ) → me.0.role ≡ Pass → me.0.operation ≡ Some m → FitsWords m.op → NeedsPrimeWrite m → PrimeOut m prime
     → 1 ≤ plan.counts.numbers → me.0.call.rows.next < me.0.call.rows.stop → BeginWith me.0.call.staged (prime_words prime) → MayChange me.0 (key_of m.op)
     → Allows (IsTable plan) slots id me 0 (λ n. me.0.call.rows.next) (λ n. publishes_prime (step slots 0 me.0.call.rows.next 0 none) me n)
 prime_is_published plan slots id me m prime role at_m fits needs out some_number room is_row may s table homes at small =
     let to = prime_becomes_published plan s table id me m prime at role at_m fits needs out some_number room is_row may in
-    let then : SeatState = (publishes me.0 (done m 0) to.way me.0.call.pages to.share to.seen (takes_out (slice_index s.words 0) me.0.stock), me.1) in (
+    let then : SeatState = (publishes me.0 (done m 0) to.way me.0.call.pages to.share to.seen (takes_out (named_row s.words 0) me.0.stock), me.1) in (
       then.0,
       keeps,
       tt,
       to.table,
       λ k at_k needs_k.
           let same : m ≡ k = cc in
-          subst (λ (j : PlainMachine). PublishesPrime (slice_index s.words 0) j me then) same
+          subst (λ (j : PlainMachine). PublishesPrime (named_row s.words 0) j me then) same
           record { way = to.way; share = to.share; seen = to.seen; is = refl; learns = to.learns; decided = to.decided; next = to.next; uses = to.uses; answers_at_end = to.answers_at_end; knows_own = to.knows_own; ends_with_own = to.ends_with_own },
     )

@@ -11,7 +11,7 @@ use Rattle.blink_batch.specs.declared.Entry.{Entry}
 use Rattle.blink_batch.specs.{pointer_of}
 use Rattle.blink_page.specs.{IsPageNumber, PlainPage}
 use Rattle.blink_rest.specs.{Pages}
-use Rattle.blink_rows.specs.{page_words, prime_words}
+use Rattle.blink_rows.specs.{page_words, prime_words, row_in}
 use Rattle.blink_rows.specs.declared.span.Span.{Span}
 use Rattle.blink_machine.specs.declared.machine.State.{State as MachineState}
 use Rattle.blink_machine.specs.declared.machine.State.TheVariants.{Going}
@@ -29,12 +29,13 @@ use Rattle.blink_live.specs.Changes.{put, after, states_of}
 use Rattle.blink_live.specs.Accounts.{AreAccounts}
 use Rattle.blink_live.specs.Reuse.{IsReuseSafe}
 use Rattle.blink_live.specs.Looks.{IsLeafInChain}
-use Rattle.blink_live.specs.Rule.{Owners, IsPublished, PageWordIs, latch_word, HasRows, HasNumbers, HasSpare, IsShare, IsInRole, IsBoundedWay, Knows, IsTableAt, IsTable}
+use Rattle.blink_live.specs.Rule.{Owners, IsPublished, PageWordIs, latch_word, HasRows, HasNumbers, HasSpare, IsShare, IsInRole, IsBoundedWay, Knows, IsTableAt, IsTable, Names}
 use Rattle.blink_live.specs.Views.{IsCommon, IsOwned, span, publishes}
 use Rattle.blink_live.specs.Words.{place_word, word_count, BeginWith, RowBegins}
 use Rattle.blink_live.proofs.changed.ChangesAreTheMaps.{after-append, states_of-append}
 use Rattle.blink_live.proofs.table.PoolStays.{pool_stays}
 use Rattle.blink_live.proofs.table.MapsWithOneChange.{put_here, put_else}
+use Rattle.blink_live.proofs.table.RowsAreNamed.{names_its_row, row_names_itself}
 use Rattle.blink_live.proofs.table.OthersKnowTheSame.{LeavesOthers, RowStays, page_word_still, seat_reads_still}
 use Rattle.blink_live.proofs.table.AccountsStay.{AreBy, accounts_grow}
 use Rattle.blink_live.proofs.table.StoresKeepTable.{row_stays, IsStored, prime_still, store_keeps}
@@ -110,6 +111,9 @@ module _ (plan : Plan) (s : State ℕ View) (tree_state then : TreeState) (h : I
     other_place : (place : ℕ) → slice_index words (place_word plan.counts place) ≡ slice_index s.words (place_word plan.counts place)
     other_place place = get_or-set_other s.words number (place_word plan.counts place) v.call.rows.next 0 (λ e. omega (arith, e, in_range))
 
+    row_inside : v.call.rows.next ≤ plan.counts.rows
+    row_inside = let last = known.for_call.others.in_range.1 in omega (arith, last, room)
+
     -- what the write changes of keys: its own alone
     pub record ChangesOwn : Type 0 where
       pub other_changes : IsOwned plan → (key : ℕ) → h.owners.key key ≢ suc id → states_of key made ≡ []
@@ -140,11 +144,11 @@ module _ (plan : Plan) (s : State ℕ View) (tree_state then : TreeState) (h : I
         latch_numbers = λ seat. refl;
         longer = λ seen is. (is.0 ++ made, sym (append_assoc seen is.0 made) ∙ ap (λ (l : List Change). l ++ made) is.1);
         in_chain = step.in_chain;
-        named = λ n row least few unowned is. dite (ℕ_discrete n number)
+        named = λ n word least few unowned is. dite (ℕ_discrete n number)
             (λ same.
             let wide = h.width in
             let here : slice_index words number ≡ v.call.rows.next = get_or-set_same s.words number v.call.rows.next 0 (omega (arith, wide, in_range)) in
-            let its : row ≡ v.call.rows.next = sym is ∙ (ap (slice_index words) same ∙ here) in
+            let its : row_in word ≡ v.call.rows.next = ap row_in (sym is ∙ (ap (slice_index words) same ∙ here)) ∙ row_names_itself plan v.call.rows.next h.bounded row_inside in
             let one : 0 ≡ suc id = sym unowned ∙ (ap h.owners.row its ∙ (known.for_call.first_own room).1) in
             absurd (omega (arith, one)))
             (λ differ. (sym (get_or-set_other s.words number n v.call.rows.next 0 differ) ∙ is, step.other_pages n least differ));
@@ -196,11 +200,14 @@ module _ (plan : Plan) (s : State ℕ View) (tree_state then : TreeState) (h : I
 
       -- the row is published, and has the words
       is_published : IsPublished plan new v.call.rows.next × RowBegins plan.counts words v.call.rows.next content
-      is_published =
-          let high = known.for_call.others.in_range.1 in (
-            ((row_number, omega (arith, high, room)), put_here h.owners.row v.call.rows.next 0),
-            λ i inside few. stays v.call.rows.next i inside ∙ (known.for_call.staged room i inside (let all = is_row.all in omega (arith, all, few)) ∙ is_row.filled i few),
-          )
+      is_published = (
+        ((row_number, row_inside), put_here h.owners.row v.call.rows.next 0),
+        λ i inside few. stays v.call.rows.next i inside ∙ (known.for_call.staged room i inside (let all = is_row.all in omega (arith, all, few)) ∙ is_row.filled i few),
+      )
+
+      -- a word that is its number names it
+      word_names_it : Names plan new words v.call.rows.next content
+      word_names_it = names_its_row plan new words v.call.rows.next content h.bounded is_published.0 is_published.1
 
       word_here : slice_index words number ≡ v.call.rows.next
       word_here = let wide = h.width in get_or-set_same s.words number v.call.rows.next 0 (omega (arith, wide, in_range))
@@ -212,15 +219,15 @@ module _ (plan : Plan) (s : State ℕ View) (tree_state then : TreeState) (h : I
       names_row : (n : ℕ) → 1 ≤ n → n ≡ number → PageWordIs plan new words (slice_index words n) (then.pages n)
       names_row n least same =
           let here = step.page_here (omega (arith, least, same)) in
-          let published : IsPublished plan new v.call.rows.next × RowBegins plan.counts words v.call.rows.next (page_words here.0) = subst (λ (c : List ℕ). IsPublished plan new v.call.rows.next × RowBegins plan.counts words v.call.rows.next c) here.2 is_published in
+          let names : Names plan new words v.call.rows.next (page_words here.0) = subst (Names plan new words v.call.rows.next) here.2 word_names_it in
           let word : slice_index words n ≡ v.call.rows.next = ap (slice_index words) same ∙ word_here in
           let is_page : then.pages n ≡ Some here.0 = ap then.pages same ∙ here.1 in
-          subst (λ (t : ℕ × Option PlainPage). PageWordIs plan new words t.0 t.1) (λ i. (sym word i, sym is_page i)) published
+          subst (λ (t : ℕ × Option PlainPage). PageWordIs plan new words t.0 t.1) (λ i. (sym word i, sym is_page i)) names
 
-      prime_now : (n : ℕ) → number ≡ n → IsPublished plan new (slice_index words 0) × RowBegins plan.counts words (slice_index words 0) (prime_words then.prime)
+      prime_now : (n : ℕ) → number ≡ n → Names plan new words (slice_index words 0) (prime_words then.prime)
       prime_now zero is =
           let word : slice_index words 0 ≡ v.call.rows.next = ap (slice_index words) (sym is) ∙ word_here in
-          subst (λ (t : ℕ × List ℕ). IsPublished plan new t.0 × RowBegins plan.counts words t.0 t.1) (λ i. (sym word i, step.prime_here is i)) is_published
+          subst (λ (t : ℕ × List ℕ). Names plan new words t.0 t.1) (λ i. (sym word i, step.prime_here is i)) word_names_it
       prime_now (suc n) is = prime_still plan s tree_state then h id kept.0 words new log leaves (word_else 0 (λ e. omega (arith, e, is))) (step.other_prime (omega (arith, is)))
 
       same_latch_word : (holder : Option ℕ) → latch_word h.owners holder ≡ latch_word new holder

@@ -41,13 +41,13 @@ module _ (plan : Plan) (s : State ℕ View) (tree_state : TreeState) (h : IsTabl
         | no inside ↦ omega (arith, inside)
       ] in
       let word : PageWordIs plan h.owners s.words (slice_index s.words number) (Some page) = subst (PageWordIs plan h.owners s.words (slice_index s.words number)) there (h.pages number some_number in_range) in
-      record { number_in_range = (some_number, in_range); row_in_range = word.0.0; row_begins = word.1 }
+      record { number_in_range = (some_number, in_range); row_in_range = word.published.0; row_begins = word.begins }
 
   pub kept_prime : KeepsPrime plan.counts s.words tree_state.prime
   kept_prime =
       let order = step_law.invariant_gives_order tree_state h.invariant in record {
-        row_in_range = h.prime.0.0;
-        row_begins = h.prime.1;
+        row_in_range = h.prime.published.0;
+        row_begins = h.prime.begins;
         lawful = record { one_at_least = order.tree.1.tree.chains.some_level; at_most_levels = let few = order.few_levels in omega (arith, few); page_numbers = h.prime_numbers };
       }
 

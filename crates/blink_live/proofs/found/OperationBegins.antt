@@ -2,7 +2,6 @@
 use Rattle.std.proofs.Common.{◌≡◌, ℕ, suc, ◌+◌, ◌≤◌, Some, None, List, [], refl, sym, ap, ◌∙◌, subst, inl, ⊎_elim, ◌⊎◌, ◌≢◌, ◌<◌, arith}
 use mathlib.Core.Option.{some}
 use lib.ListN.{get_elem?}
-use Rattle.std.specs.Prelude.{slice_index}
 use mathlib.Core.List.{append-nil}
 use Rattle.atomic_table.specs.Table.{State, step, keeps, Allows}
 use mathlib.Core.Option.{none}
@@ -24,6 +23,7 @@ use Rattle.blink_live.specs.AtomicSteps.{begins}
 use Rattle.blink_live.specs.Reuse.{IsAtHand}
 use Rattle.blink_live.specs.Rule.{ReadsRow, IsInRole, IsBoundedWay, Knows, IsTable, IsTableAt}
 use Rattle.blink_live.specs.Views.{pages_of, rows_taken, IsCommon, SeatState, CanBegin, for_call, reading, span}
+use Rattle.blink_live.specs.Words.{named_row}
 use Rattle.blink_live.proofs.reuse.ReuseStaysSafe.{reads_named, reuse_stays}
 use Rattle.blink_live.proofs.table.AccountsStay.{account, still_saw}
 use Rattle.blink_live.proofs.table.LoadsKeepTable.{moved, load_keeps_with}
@@ -127,7 +127,7 @@ begins_operation plan slots id me op role idle fits enough some_number s table h
     let first : SeesFirst m tree_state.prime = sees_first m tree_state.prime refl (order.reads_prime id m its refl) in
     let after : PlainMachine = first.after in
     let way : ℕ = descent_bound tree_state.pages after in
-    let row : ℕ = slice_index s.words 0 in
+    let row : ℕ = named_row s.words 0 in
     let w : View = reading (for_call me.0 op) after way row (prime_words tree_state.prime) h.log in
     let invariant = step_law.step_keeps_invariant tree_state (moved tree_state id (goes_on after after.state)) id m after (Moved kind.ReadPrime) h.invariant fits its
     (prime_step tree_state id m after refl first.sees) in (
@@ -138,7 +138,7 @@ begins_operation plan slots id me op role idle fits enough some_number s table h
           (λ common role. still_saw plan h.owners.place h.log s.views id me.0 w at (h.accounted common) (account plan h.owners.place h.log s.views id me.0 w at (h.accounted common) role) h.log known.saw ([], append-nil h.log) role)
           (λ common. reuse_stays plan h.owners.row s.words s.views id me.0 w at (h.reuse common) h.owners.row s.words (λ other is. is) (λ seat r later is apart. is) (λ n few. refl) refl (call_of_rows plan s tree_state h id me.0 op at enough)
           (reads_named plan s.words me.0 w 0 row (prime_words tree_state.prime) refl refl refl refl role (enough.announced (subst IsCommon (sym known.same_plan) common)) (omega (arith, some_number)) refl))
-          (begin_knows plan s tree_state h id me.0 after row way (prime_words tree_state.prime) at role op enough (λ other is. ap (descent_bound tree_state.pages) (sym (goes_on_as after after.state other is))) h.prime),
+          (begin_knows plan s tree_state h id me.0 after row way (prime_words tree_state.prime) at role op enough (λ other is. ap (descent_bound tree_state.pages) (sym (goes_on_as after after.state other is))) (h.prime.published, h.prime.begins)),
       (
         after,
         record {
@@ -147,7 +147,7 @@ begins_operation plan slots id me op role idle fits enough some_number s table h
           seen = h.log;
           is = refl;
           learns = record { saw = known.saw; heard = known.heard };
-          row_in_range = subst (λ (p : Plan). (1 ≤ row) × (row ≤ p.counts.rows)) (sym known.same_plan) h.prime.0.0;
+          row_in_range = subst (λ (p : Plan). (1 ≤ row) × (row ≤ p.counts.rows)) (sym known.same_plan) h.prime.published.0;
           some_level = order.tree.1.tree.chains.some_level;
           few_levels = order.few_levels;
           page_numbers = h.prime_numbers;

@@ -21,6 +21,7 @@ use Rattle.blink_live.specs.Changes.{after}
 use Rattle.blink_live.specs.AtomicSteps.{loads_page, LoadsPage, AnswersAfter, TellsStates}
 use Rattle.blink_live.specs.Rule.{IsTable, IsTableAt, PageWordIs}
 use Rattle.blink_live.specs.Views.{IsAnnounced, IsCommon, SeatState, reading}
+use Rattle.blink_live.specs.Words.{named_row}
 use Rattle.blink_live.proofs.reuse.ReuseStaysSafe.{reads_named}
 use Rattle.blink_live.proofs.table.LoadsKeepTable.{moved, load_keeps}
 use Rattle.blink_live.proofs.table.SharesAreKnown.{share_is_known}
@@ -73,8 +74,8 @@ reads_page_word plan slots id number me m role at_m fits needs some_number in_ra
     let reads = order.reads_page id number m its needs in
     let then : PlainMachine = reads.one_machine.after in
     let sees = reads.one_machine.sees in
-    let row : ℕ = slice_index s.words number in
-    let is_page : PageWordIs plan h.owners s.words row (Some reads.page) = subst (PageWordIs plan h.owners s.words row) reads.there (h.pages number some_number in_range) in
+    let row : ℕ = named_row s.words number in
+    let is_page : PageWordIs plan h.owners s.words (slice_index s.words number) (Some reads.page) = subst (PageWordIs plan h.owners s.words (slice_index s.words number)) reads.there (h.pages number some_number in_range) in
     let way : ℕ = descent_bound tree_state.pages then in
     let w : View = reading me.0 then way row (page_words reads.page) h.log in
     let stepped = read_step tree_state id number m then reads.page needs reads.there sees in
@@ -86,7 +87,7 @@ reads_page_word plan slots id number me m role at_m fits needs some_number in_ra
       tt,
       load_keeps plan s tree_state h id number me.0 w at role (m, at_m) invariant refl
           (λ some_other is. ap (descent_bound tree_state.pages) (sym (goes_on_as then then.state some_other is)))
-          is_page
+          (is_page.published, is_page.begins)
           ([], append-nil h.log)
           (h.views id me.0 at).saw
           (λ common. reads_named plan s.words me.0 w number row (page_words reads.page) refl refl refl refl role (announced (subst IsCommon (sym known.same_plan) common)) in_range refl),
@@ -98,7 +99,7 @@ reads_page_word plan slots id number me m role at_m fits needs some_number in_ra
           seen = h.log;
           is = refl;
           learns = record { saw = known.saw; heard = known.heard };
-          row_in_range = subst (λ (p : Plan). (1 ≤ row) × (row ≤ p.counts.rows)) (sym known.same_plan) is_page.0.0;
+          row_in_range = subst (λ (p : Plan). (1 ≤ row) × (row ≤ p.counts.rows)) (sym known.same_plan) is_page.published.0;
           lawful = lawful_within tree_state.fan reads.page h.invariant.1.fan_in_range.1 reads.lawful;
           readable = reads.readable;
           sees = sees;

@@ -1,6 +1,5 @@
 -- The load of the prime block's page word is the tree's read of the prime block, or a wait that changes nothing.
 use Rattle.std.proofs.Common.{◌≡◌, ℕ, suc, ◌≤◌, Some, [], refl, sym, ap, ◌∙◌, subst, arith}
-use Rattle.std.specs.Prelude.{slice_index}
 use mathlib.Core.Option.{none}
 use mathlib.Core.List.{append-nil}
 use Rattle.atomic_table.specs.Table.{step, keeps, Allows}
@@ -19,6 +18,7 @@ use Rattle.blink_live.specs.declared.view.View.{View}
 use Rattle.blink_live.specs.AtomicSteps.{AsksPrime, NeedsNoMore, loads_prime, LoadsPrime}
 use Rattle.blink_live.specs.Rule.{IsTable, IsTableAt}
 use Rattle.blink_live.specs.Views.{IsAnnounced, IsCommon, SeatState, reading}
+use Rattle.blink_live.specs.Words.{named_row}
 use Rattle.blink_live.proofs.reuse.ReuseStaysSafe.{reads_named}
 use Rattle.blink_live.proofs.table.LoadsKeepTable.{moved, load_keeps}
 use Rattle.blink_live.proofs.table.SharesAreKnown.{share_is_known}
@@ -77,13 +77,13 @@ reads_prime_word plan slots id me m role at_m fits needs some_number announced s
     let order = step_law.invariant_gives_order tree_state h.invariant in
     let comes : Asked tree_state id m = asked tree_state h.invariant id m under needs fits (order.reads_prime id m (under_way under) needs) in
     let then : PlainMachine = comes.machine in
-    let row : ℕ = slice_index s.words 0 in
+    let row : ℕ = named_row s.words 0 in
     let way : ℕ = descent_bound tree_state.pages then in
     let w : View = reading me.0 then way row (prime_words tree_state.prime) h.log in (
       w,
       keeps,
       tt,
-      load_keeps plan s tree_state h id 0 me.0 w at role (m, at_m) comes.invariant refl (λ some_other is. ap (descent_bound tree_state.pages) (sym (goes_on_as then then.state some_other is))) h.prime ([], append-nil h.log) (h.views id me.0 at).saw
+      load_keeps plan s tree_state h id 0 me.0 w at role (m, at_m) comes.invariant refl (λ some_other is. ap (descent_bound tree_state.pages) (sym (goes_on_as then then.state some_other is))) (h.prime.published, h.prime.begins) ([], append-nil h.log) (h.views id me.0 at).saw
           (λ common. reads_named plan s.words me.0 w 0 row (prime_words tree_state.prime) refl refl refl refl role (announced (subst IsCommon (sym known.same_plan) common)) (omega (arith, some_number)) refl),
       λ same at_same needed. subst (λ (k : PlainMachine). (machine : PlainMachine) × LoadsPrime k me row machine (w, me.1)) (let e : m ≡ same = cc in e) (
         then,
@@ -93,7 +93,7 @@ reads_prime_word plan slots id me m role at_m fits needs some_number announced s
           seen = h.log;
           is = refl;
           learns = record { saw = known.saw; heard = known.heard };
-          row_in_range = subst (λ (p : Plan). (1 ≤ row) × (row ≤ p.counts.rows)) (sym known.same_plan) h.prime.0.0;
+          row_in_range = subst (λ (p : Plan). (1 ≤ row) × (row ≤ p.counts.rows)) (sym known.same_plan) h.prime.published.0;
           some_level = order.tree.1.tree.chains.some_level;
           few_levels = order.few_levels;
           page_numbers = h.prime_numbers;

@@ -9,7 +9,7 @@ use Rattle.blink_page.specs.declared.limits.TheConstants.{MAX_FAN}
 use Rattle.blink_rows.specs.{PlainCounts, page_words, IsRowOf, IsPageRow}
 use Rattle.blink_rows.specs.declared.limits.TheConstants.{ROW_WORDS}
 use Rattle.blink_rows.proofs.Offered.{length-page_words, row_has_one_page}
-use Rattle.blink_live.specs.Words.{KeepsPage, RowBegins, row_start}
+use Rattle.blink_live.specs.Words.{KeepsPage, RowBegins, named_row, row_start}
 
 -- the word that was read is the word that stands there
 pub word_there : (words : List ℕ) (i word : ℕ) → get_elem? words i ≡ some word → get_or words i 0 ≡ word
@@ -17,25 +17,25 @@ word_there [] i word found = cc
 word_there (w ∷ words) zero word found = cc
 word_there (w ∷ words) (suc i) word found = word_there words i word found
 
-module _ (counts : PlainCounts) (words row_words : List ℕ) (number start many : ℕ) (width : length row_words ≡ ROW_WORDS) (is_start : start ≡ row_start counts (get_or words number 0))
+module _ (counts : PlainCounts) (words row_words : List ℕ) (number start many : ℕ) (width : length row_words ≡ ROW_WORDS) (is_start : start ≡ row_start counts (named_row words number))
     (same : (i : ℕ) → i < many → get_or row_words i 0 ≡ get_or words (start + i) 0) (rest : (i : ℕ) → many ≤ i → get_or row_words i 0 ≡ 0) where
   -- the words that were read are the row that the word names, with 0 behind what it begins with
-  pub row_of_content : (content : List ℕ) → many ≡ length content → RowBegins counts words (get_or words number 0) content → IsRowOf row_words content
+  pub row_of_content : (content : List ℕ) → many ≡ length content → RowBegins counts words (named_row words number) content → IsRowOf row_words content
   row_of_content content ends begins = record {
     width = width;
     filled = λ i inside. ⊎_elim
         (λ (few : i < many).
-        let at : start + i ≡ row_start counts (get_or words number 0) + i = ap (λ (k : ℕ). k + i) is_start in
+        let at : start + i ≡ row_start counts (named_row words number) + i = ap (λ (k : ℕ). k + i) is_start in
         same i few ∙ ap (λ (k : ℕ). get_or words k 0) at ∙ begins i inside (omega (arith, few, ends)))
         (λ (past : many ≤ i). rest i past ∙ sym (get_or_past content i 0 (omega (arith, past, ends))))
         (cases_lt i many);
   }
 
 -- the number of a page's entries, or of a prime block's levels, stands in the row
-pub count_of_kept : (counts : PlainCounts) (words content : List ℕ) (number start : ℕ) → start ≡ row_start counts (get_or words number 0) → 5 < length content → RowBegins counts words (get_or words number 0) content → get_or words (start + 5) 0 ≡ get_or content 5 0
+pub count_of_kept : (counts : PlainCounts) (words content : List ℕ) (number start : ℕ) → start ≡ row_start counts (named_row words number) → 5 < length content → RowBegins counts words (named_row words number) content → get_or words (start + 5) 0 ≡ get_or content 5 0
 count_of_kept counts words content number start is_start long begins = ap (λ (k : ℕ). get_or words (k + 5) 0) is_start ∙ begins 5 (omega arith) long
 
-module _ (counts : PlainCounts) (words row_words : List ℕ) (number start count : ℕ) (width : length row_words ≡ ROW_WORDS) (is_start : start ≡ row_start counts (get_or words number 0)) (is_count : get_or words (start + 5) 0 ≡ count)
+module _ (counts : PlainCounts) (words row_words : List ℕ) (number start count : ℕ) (width : length row_words ≡ ROW_WORDS) (is_start : start ≡ row_start counts (named_row words number)) (is_count : get_or words (start + 5) 0 ≡ count)
     (same : (i : ℕ) → i < 6 + 2 * count → get_or row_words i 0 ≡ get_or words (start + i) 0) (rest : (i : ℕ) → 6 + 2 * count ≤ i → get_or row_words i 0 ≡ 0) where
   -- so the words of a page's row are its row
   pub row_of_kept : (page : PlainPage) → KeepsPage counts words number page → IsPageRow page row_words

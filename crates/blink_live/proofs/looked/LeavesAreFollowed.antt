@@ -10,7 +10,7 @@ use Rattle.atomic_table.specs.Table.{State, step, keeps, Allows}
 use Rattle.blink_batch.specs.{pointer_of}
 use Rattle.blink_page.specs.{PlainPage, IsLawfulPage}
 use Rattle.blink_page.specs.declared.limits.TheConstants.{MAX_FAN}
-use Rattle.blink_rows.specs.{page_words}
+use Rattle.blink_rows.specs.{page_words, row_in}
 use Rattle.blink_rest.specs.{Pages}
 use Rattle.blink_machine.specs.TreeState.{TreeState}
 use Rattle.blink_machine.proofs.Offered.{tree_laws}
@@ -21,9 +21,10 @@ use Rattle.blink_live.specs.declared.view.View.{View}
 use Rattle.blink_live.specs.Along.{IsNotedLeaf, goes, goes_along}
 use Rattle.blink_live.specs.Changes.{after}
 use Rattle.blink_live.specs.Looks.{HasLooked, IsLeafInChain, IsNoted, TellsAll}
-use Rattle.blink_live.specs.Reuse.{HoldsRow}
+use Rattle.blink_live.specs.Reuse.{HasNoted, HoldsRow}
 use Rattle.blink_live.specs.Rule.{IsInRole, IsTable, IsTableAt, PageWordIs}
 use Rattle.blink_live.specs.Views.{IsCommon, SeatState}
+use Rattle.blink_live.specs.Words.{named_row}
 use Rattle.blink_live.proofs.dealt.FirstOrOneOfRest.{contains_case}
 use Rattle.blink_live.proofs.found.ReadsPage.{lawful_within}
 use Rattle.blink_live.proofs.looked.LeavesAreNoted.{busy, kept, still, with_look}
@@ -54,13 +55,13 @@ next_note (Some next) words was = (next, slice_index words next)
 module _ (plan : Plan) (s : State ℕ View) (tree_state : TreeState) (h : IsTableAt plan s tree_state) (id : ℕ) (v : View) (at : get_elem? s.views id ≡ some v) (role : v.role ≡ Pass) (awake : IsCommon plan → 2 ≤ v.busy)
     (number before : ℕ) (some_number : 1 ≤ number) (in_range : number < plan.counts.numbers) (noted : Contains v.look.leaves (number, before)) (page : PlainPage) (there : tree_state.pages number ≡ Some page) where
   abbrev named : ℕ
-  named = slice_index s.words number
+  named = named_row s.words number
 
   its_note : IsNoted plan h.owners.row s.words tree_state.fan tree_state.prime tree_state.pages v.look.marked number before
   its_note = (h.views id v at).reads.1 number before noted
 
   pub is_page : PageWordIs plan h.owners s.words (slice_index s.words number) (Some page)
-  is_page = subst (PageWordIs plan h.owners s.words named) there (h.pages number some_number in_range)
+  is_page = subst (PageWordIs plan h.owners s.words (slice_index s.words number)) there (h.pages number some_number in_range)
 
   abbrev pub its_look : Look
   its_look = record { leaves = next_note page.right s.words (number, before) ∷ v.look.leaves; marked = None }
@@ -92,8 +93,8 @@ module _ (plan : Plan) (s : State ℕ View) (tree_state : TreeState) (h : IsTabl
       let range = next_in_range next it.1 it.2 in
       let is : PageWordIs plan h.owners s.words (slice_index s.words next) (Some it.1) = subst (PageWordIs plan h.owners s.words (slice_index s.words next)) it.2 (h.pages next range.0 range.1) in record {
         in_range = range;
-        row_in_range = is.0.0;
-        unowned = is.0.1;
+        row_in_range = is.published.0;
+        unowned = is.published.1;
         in_chain = it.0;
         tells = λ changes is. absurd (let e : None ≡ Some changes = is in cc);
       }
@@ -106,12 +107,12 @@ module _ (plan : Plan) (s : State ℕ View) (tree_state : TreeState) (h : IsTabl
   looked n r has = contains_case (next_note page.right s.words (number, before)) v.look.leaves (n, r) has (λ is. note_is_right page.right refl n r is) (unmarked n r)
 
   -- what the seat holds was held before, or a page word names it
-  held : (right : Option ℕ) → page.right ≡ right → (n r : ℕ) (content : List ℕ) → next_note right s.words (number, before) ≡ (n, r)
-      → ((c : List ℕ) × HoldsRow v r c) ⊎ ((k : ℕ) × (k < plan.counts.numbers) × (slice_index s.words k ≡ r))
-  held None link n r content is = inl (content, inr (n, subst (Contains v.look.leaves) is noted))
-  held (Some next) link n r content is =
+  held : (right : Option ℕ) → page.right ≡ right → (n word : ℕ) (content : List ℕ) → next_note right s.words (number, before) ≡ (n, word)
+      → ((c : List ℕ) × HoldsRow v (row_in word) c) ⊎ ((k : ℕ) × (k < plan.counts.numbers) × (named_row s.words k ≡ row_in word))
+  held None link n word content is = inl (content, inr (n, word, subst (Contains v.look.leaves) is noted, refl))
+  held (Some next) link n word content is =
       let it = right_in_chain tree_state.fan tree_state.prime tree_state.pages number next page its_note.in_chain there link in
-      inr (next, (next_in_range next it.1 it.2).1, ap (λ (x : ℕ × ℕ). x.1) is)
+      inr (next, (next_in_range next it.1 it.2).1, ap (λ (x : ℕ × ℕ). row_in x.1) is)
 
   abbrev along : View
   along = goes v named (page_words page) h.log its_look
@@ -120,19 +121,20 @@ module _ (plan : Plan) (s : State ℕ View) (tree_state : TreeState) (h : IsTabl
   may_read common other content is = record {
     awake = (role, awake common);
     from = ⊎_elim (λ (now : along.reads ≡ Some (other, content)). inr (number, in_range, row_is named other (page_words page) content now))
-        (λ (has : (n : ℕ) × Contains its_look.leaves (n, other)). contains_case (next_note page.right s.words (number, before)) v.look.leaves (has.0, other) has.1
-        (λ its. ⊎_elim (λ (t : (c : List ℕ) × HoldsRow v other c). inl (t.0, t.1, refl, refl)) (λ (t : (k : ℕ) × (k < plan.counts.numbers) × (slice_index s.words k ≡ other)). inr t) (held page.right refl has.0 other content its))
-        (λ was. inl (content, inr (has.0, was), refl, refl))) is;
+        (λ (has : HasNoted its_look other). contains_case (next_note page.right s.words (number, before)) v.look.leaves (has.0, has.1) has.2
+        (λ its. ⊎_elim (λ (t : (c : List ℕ) × HoldsRow v (row_in has.1) c). inl (t.0, subst (λ (r : ℕ). HoldsRow v r t.0) has.3 t.1, refl, refl))
+        (λ (t : (k : ℕ) × (k < plan.counts.numbers) × (named_row s.words k ≡ row_in has.1)). inr (t.0, t.1, t.2 ∙ has.3)) (held page.right refl has.0 has.1 content its))
+        (λ was. inl (content, inr (has.0, has.1, was, has.3), refl, refl))) is;
   }
 
-  pub along_keeps : IsTable plan record { words = set s.words number (get_or s.words number 0); homes = s.homes; views = set s.views id (goes v (slice_index s.words number) (page_words page) h.log its_look) }
+  pub along_keeps : IsTable plan record { words = set s.words number (get_or s.words number 0); homes = s.homes; views = set s.views id (goes v (named_row s.words number) (page_words page) h.log its_look) }
   along_keeps =
       let read : View = record v { reads = Some (named, page_words page); seen = h.log } in
       load_keeps_with plan s tree_state h id number v along at (still plan s tree_state h id v at role) refl refl refl
       (λ common is. still_saw plan h.owners.place h.log s.views id v along at (h.accounted common) (account plan h.owners.place h.log s.views id v along at (h.accounted common) is) h.log (h.views id v at).saw ([], append-nil h.log) is)
       (λ common. reuse_stays plan h.owners.row s.words s.views id v along at (h.reuse common) h.owners.row s.words (λ r is. is) (λ seat r later is apart. is) (λ n few. refl) refl (hand_stays h.owners.row id v along refl refl) (may_read common))
       (with_look plan h.owners s.words (moved tree_state id v.operation) h.log id read its_look role looked
-      (load_knows_in plan s tree_state h id number v read at (subst (IsInRole plan h.owners h.log id read) (sym role) (kept plan s tree_state h id v at role)) (busy plan s tree_state h id v at role) refl (h.views id v at).bounded is_page ([], append-nil h.log)))
+      (load_knows_in plan s tree_state h id number v read at (subst (IsInRole plan h.owners h.log id read) (sym role) (kept plan s tree_state h id v at role)) (busy plan s tree_state h id v at role) refl (h.views id v at).bounded (is_page.published, is_page.begins) ([], append-nil h.log)))
 
   pub is_lawful : IsLawfulPage MAX_FAN page
   is_lawful =
@@ -155,7 +157,7 @@ module _ (plan : Plan) (s : State ℕ View) (tree_state : TreeState) (h : IsTabl
   right_noted next right =
       let it = right_in_chain tree_state.fan tree_state.prime tree_state.pages number next page its_note.in_chain there right in record {
         in_range = subst (λ (p : Plan). (1 ≤ next) × (next < p.counts.numbers)) (sym (h.views id v at).same_plan) (next_in_range next it.1 it.2);
-        row = slice_index s.words next;
+        word = slice_index s.words next;
         noted = noted_by page.right next right v.look.leaves;
       }
 
@@ -173,22 +175,22 @@ goes_along_at plan slots id number me same role awake leaf s table homes at smal
     let h : IsTableAt plan s tree_state = table.1 in
     let its = h.views id me.0 at in
     let in_range : number < plan.counts.numbers = subst (λ (p : Plan). number < p.counts.numbers) same leaf.in_range.1 in
-    let page = leaf_there tree_state.fan tree_state.prime tree_state.pages number (its.reads.1 number leaf.row leaf.noted).in_chain in
-    let row : ℕ = slice_index s.words number in (
-      goes me.0 row (page_words page.0) h.log (its_look plan s tree_state h id me.0 at role awake number leaf.row leaf.in_range.0 in_range leaf.noted page.0 page.1),
+    let page = leaf_there tree_state.fan tree_state.prime tree_state.pages number (its.reads.1 number leaf.word leaf.noted).in_chain in
+    let row : ℕ = named_row s.words number in (
+      goes me.0 row (page_words page.0) h.log (its_look plan s tree_state h id me.0 at role awake number leaf.word leaf.in_range.0 in_range leaf.noted page.0 page.1),
       keeps,
       tt,
-      along_keeps plan s tree_state h id me.0 at role awake number leaf.row leaf.in_range.0 in_range leaf.noted page.0 page.1,
+      along_keeps plan s tree_state h id me.0 at role awake number leaf.word leaf.in_range.0 in_range leaf.noted page.0 page.1,
       record {
         page = page.0;
         seen = h.log;
-        look = its_look plan s tree_state h id me.0 at role awake number leaf.row leaf.in_range.0 in_range leaf.noted page.0 page.1;
+        look = its_look plan s tree_state h id me.0 at role awake number leaf.word leaf.in_range.0 in_range leaf.noted page.0 page.1;
         is = refl;
         saw = its.saw;
-        row_in_range = subst (λ (p : Plan). (1 ≤ row) × (row ≤ p.counts.rows)) (sym same) (is_page plan s tree_state h id me.0 at role awake number leaf.row leaf.in_range.0 in_range leaf.noted page.0 page.1).0.0;
-        lawful = is_lawful plan s tree_state h id me.0 at role awake number leaf.row leaf.in_range.0 in_range leaf.noted page.0 page.1;
-        tells = tells_now plan s tree_state h id me.0 at role awake number leaf.row leaf.in_range.0 in_range leaf.noted page.0 page.1;
-        right = right_noted plan s tree_state h id me.0 at role awake number leaf.row leaf.in_range.0 in_range leaf.noted page.0 page.1;
-        knows_own = share_is_known plan h.owners (suc id) (goes me.0 row (page_words page.0) h.log (its_look plan s tree_state h id me.0 at role awake number leaf.row leaf.in_range.0 in_range leaf.noted page.0 page.1)) its.same_plan its.share;
+        row_in_range = subst (λ (p : Plan). (1 ≤ row) × (row ≤ p.counts.rows)) (sym same) (is_page plan s tree_state h id me.0 at role awake number leaf.word leaf.in_range.0 in_range leaf.noted page.0 page.1).published.0;
+        lawful = is_lawful plan s tree_state h id me.0 at role awake number leaf.word leaf.in_range.0 in_range leaf.noted page.0 page.1;
+        tells = tells_now plan s tree_state h id me.0 at role awake number leaf.word leaf.in_range.0 in_range leaf.noted page.0 page.1;
+        right = right_noted plan s tree_state h id me.0 at role awake number leaf.word leaf.in_range.0 in_range leaf.noted page.0 page.1;
+        knows_own = share_is_known plan h.owners (suc id) (goes me.0 row (page_words page.0) h.log (its_look plan s tree_state h id me.0 at role awake number leaf.word leaf.in_range.0 in_range leaf.noted page.0 page.1)) its.same_plan its.share;
       },
     )

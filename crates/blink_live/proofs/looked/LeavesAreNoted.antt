@@ -12,7 +12,7 @@ use Rattle.atomic_table.proofs.Lists.{set_again}
 use Rattle.blink_batch.specs.{pointer_of}
 use Rattle.blink_page.specs.{PlainPage, IsLawfulPage}
 use Rattle.blink_page.specs.declared.limits.TheConstants.{MAX_FAN}
-use Rattle.blink_rows.specs.{page_words}
+use Rattle.blink_rows.specs.{page_words, row_in}
 use Rattle.blink_machine.specs.declared.machine.State.TheVariants.{Going}
 use Rattle.blink_machine.specs.{PlainMachine, need_at, under_way}
 use Rattle.blink_machine.specs.Invariant.{Invariant}
@@ -25,9 +25,11 @@ use Rattle.blink_live.specs.declared.view.Role.TheVariants.{Pass}
 use Rattle.blink_live.specs.declared.view.View.{View}
 use Rattle.blink_live.specs.Changes.{after}
 use Rattle.blink_live.specs.Looks.{HasLooked, IsNoted, TellsAll}
+use Rattle.blink_live.specs.Reuse.{HasNoted}
 use Rattle.blink_live.specs.Rule.{IsInRole, IsTable, IsTableAt, Knows, Owners, PageWordIs}
 use Rattle.blink_live.specs.Snapshots.{looks_again, marks, marks_state, notes, notes_leaf, reads_again}
 use Rattle.blink_live.specs.Views.{IsCommon, SeatState}
+use Rattle.blink_live.specs.Words.{named_row}
 use Rattle.blink_live.proofs.dealt.FirstOrOneOfRest.{contains_case}
 use Rattle.blink_live.proofs.found.ReadsPage.{lawful_within}
 use Rattle.blink_live.proofs.reuse.ReuseStaysSafe.{hand_stays, reads_named, reuse_stays, same_reads}
@@ -81,8 +83,8 @@ module _ (plan : Plan) (s : State ℕ View) (tree_state : TreeState) (h : IsTabl
   -- ---- a leaf is noted
 
   module _ (number : ℕ) (m : PlainMachine) (at_m : v.operation ≡ Some m) (going : m.state ≡ Going number 0) (some_number : 1 ≤ number) (in_range : number < plan.counts.numbers) (announced : IsCommon plan → 2 ≤ v.busy) where
-    abbrev row : ℕ
-    row = slice_index s.words number
+    abbrev its_word : ℕ
+    its_word = slice_index s.words number
 
     abbrev noted : View
     noted = notes v number (slice_index s.words number)
@@ -90,16 +92,16 @@ module _ (plan : Plan) (s : State ℕ View) (tree_state : TreeState) (h : IsTabl
     under : tree_state.machines id ≡ Some m
     under = known.operation ∙ at_m
 
-    names_page : (page : PlainPage) → tree_state.pages number ≡ Some page → PageWordIs plan h.owners s.words row (Some page)
-    names_page page there = subst (PageWordIs plan h.owners s.words row) there (h.pages number some_number in_range)
+    names_page : (page : PlainPage) → tree_state.pages number ≡ Some page → PageWordIs plan h.owners s.words its_word (Some page)
+    names_page page there = subst (PageWordIs plan h.owners s.words its_word) there (h.pages number some_number in_range)
 
-    first_noted : IsNoted plan h.owners.row s.words tree_state.fan tree_state.prime tree_state.pages None number row
+    first_noted : IsNoted plan h.owners.row s.words tree_state.fan tree_state.prime tree_state.pages None number its_word
     first_noted =
         let reads = (step_law.invariant_gives_order tree_state h.invariant).reads_page id number m (under_way under) (ap need_at going) in
         let is_page = names_page reads.page reads.there in record {
           in_range = (some_number, in_range);
-          row_in_range = is_page.0.0;
-          unowned = is_page.0.1;
+          row_in_range = is_page.published.0;
+          unowned = is_page.published.1;
           in_chain = comes_to_leaf tree_state id number m h.invariant under going;
           tells = λ changes is. absurd (let e : None ≡ Some changes = is in cc);
         }
@@ -114,7 +116,7 @@ module _ (plan : Plan) (s : State ℕ View) (tree_state : TreeState) (h : IsTabl
     }
 
     looked : HasLooked plan h.owners.row s.words tree_state.fan tree_state.prime tree_state.pages noted.look
-    looked n r has = contains_case (number, row) v.look.leaves (n, r) has
+    looked n r has = contains_case (number, its_word) v.look.leaves (n, r) has
         (λ is. subst (λ (x : ℕ × ℕ). IsNoted plan h.owners.row s.words tree_state.fan tree_state.prime tree_state.pages None x.0 x.1) is first_noted) (others_noted n r)
 
     pub note_keeps : IsTable plan record { words = set s.words number (get_or s.words number 0); homes = s.homes; views = set s.views id (notes v number (slice_index s.words number)) }
@@ -123,8 +125,8 @@ module _ (plan : Plan) (s : State ℕ View) (tree_state : TreeState) (h : IsTabl
         (λ other content holds. record {
           awake = (role, announced common);
           from = ⊎_elim (λ (now : v.reads ≡ Some (other, content)). inl (content, inl now, refl, refl))
-              (λ (has : (n : ℕ) × Contains ((number, row) ∷ v.look.leaves) (n, other)). contains_case (number, row) v.look.leaves (has.0, other) has.1
-              (λ is. inr (number, in_range, ap (λ (x : ℕ × ℕ). x.1) is)) (λ before. inl (content, inr (has.0, before), refl, refl))) holds;
+              (λ (has : HasNoted noted.look other). contains_case (number, its_word) v.look.leaves (has.0, has.1) has.2
+              (λ is. inr (number, in_range, ap (λ (x : ℕ × ℕ). row_in x.1) is ∙ has.3)) (λ before. inl (content, inr (has.0, has.1, before, has.3), refl, refl))) holds;
         }))
         (with_look plan h.owners s.words (moved tree_state id v.operation) h.log id v noted.look role looked (load_knows_in plan s tree_state h id number v v at known.in_role busy refl known.bounded known.reads.0 known.saw))
 
@@ -157,30 +159,30 @@ module _ (plan : Plan) (s : State ℕ View) (tree_state : TreeState) (h : IsTabl
 
   module _ (number : ℕ) (some_number : 1 ≤ number) (in_range : number < plan.counts.numbers) (awake : IsCommon plan → 2 ≤ v.busy) (page : PlainPage) (there : tree_state.pages number ≡ Some page) where
     abbrev named : ℕ
-    named = slice_index s.words number
+    named = named_row s.words number
 
     pub is_page : PageWordIs plan h.owners s.words (slice_index s.words number) (Some page)
-    is_page = subst (PageWordIs plan h.owners s.words named) there (h.pages number some_number in_range)
+    is_page = subst (PageWordIs plan h.owners s.words (slice_index s.words number)) there (h.pages number some_number in_range)
 
     abbrev again : View
-    again = reads_again v (slice_index s.words number) (page_words page)
+    again = reads_again v (named_row s.words number) (page_words page)
 
-    pub again_keeps : IsTable plan record { words = set s.words number (get_or s.words number 0); homes = s.homes; views = set s.views id (reads_again v (slice_index s.words number) (page_words page)) }
+    pub again_keeps : IsTable plan record { words = set s.words number (get_or s.words number 0); homes = s.homes; views = set s.views id (reads_again v (named_row s.words number) (page_words page)) }
     again_keeps = load_keeps_with plan s tree_state h id number v again at still refl refl refl (λ common. (h.accounted common).saw_own id v at)
         (λ common. reuse_stays plan h.owners.row s.words s.views id v again at (h.reuse common) h.owners.row s.words (λ r is. is) (λ seat r later is apart. is) (λ n few. refl) refl (hand_stays h.owners.row id v again refl refl)
         (reads_named plan s.words v again number named (page_words page) refl refl refl refl role (awake common) in_range refl))
-        (load_knows_in plan s tree_state h id number v again at (subst (IsInRole plan h.owners h.log id again) (sym role) kept) busy refl known.bounded is_page known.saw)
+        (load_knows_in plan s tree_state h id number v again at (subst (IsInRole plan h.owners h.log id again) (sym role) kept) busy refl known.bounded (is_page.published, is_page.begins) known.saw)
 
     pub is_lawful : Contains v.look.leaves (number, slice_index s.words number) → IsLawfulPage MAX_FAN page
     is_lawful has =
-        let chain = (known.reads.1 number named has).in_chain in
+        let chain = (known.reads.1 number (slice_index s.words number) has).in_chain in
         let it = tree_laws.cells_are_of_level tree_state.fan tree_state.prime tree_state.pages chain.levels 0 chain.cell chain.tree chain.stands in
         let same : chain.cell.page ≡ page = cc (it.there, there, ap tree_state.pages chain.same_number) in
         lawful_within tree_state.fan page h.invariant.1.fan_in_range.1 (subst (IsLawfulPage tree_state.fan) same it.lawful)
 
     pub tells_marked : (changes : List Change) → v.look.marked ≡ Some changes → Contains v.look.leaves (number, slice_index s.words number) → TellsAll (after (pointer_of v.plan.opening) changes) page
     tells_marked changes is has =
-        subst (λ (p : Plan). TellsAll (after (pointer_of p.opening) changes) page) (sym known.same_plan) ((known.reads.1 number named has).tells changes is refl page there)
+        subst (λ (p : Plan). TellsAll (after (pointer_of p.opening) changes) page) (sym known.same_plan) ((known.reads.1 number (slice_index s.words number) has).tells changes is refl page there)
 
 -- ---- the steps
 
@@ -210,8 +212,9 @@ pub looks_again_at : (plan : Plan) (slots id number : ℕ) (me : SeatState) → 
 looks_again_at plan slots id number me role awake some_number in_range s table homes at small =
     let tree_state : TreeState = table.0 in
     let h : IsTableAt plan s tree_state = table.1 in
-    let row : ℕ = slice_index s.words number in
-    dite (ℕ_discrete row 0)
+    let word : ℕ = slice_index s.words number in
+    let row : ℕ = named_row s.words number in
+    dite (ℕ_discrete word 0)
     (λ blank. (
       me.0,
       keeps,
@@ -220,7 +223,7 @@ looks_again_at plan slots id number me role awake some_number in_range s table h
       record { some = λ named. absurd (named blank); none = λ is. refl },
     ))
     (λ named.
-    let page = page_of plan h.owners s.words row (tree_state.pages number) (h.pages number some_number in_range) named in (
+    let page = page_of plan h.owners s.words word (tree_state.pages number) (h.pages number some_number in_range) named in (
       reads_again me.0 row (page_words page.0),
       keeps,
       tt,
@@ -229,7 +232,7 @@ looks_again_at plan slots id number me role awake some_number in_range s table h
         some = λ again. record {
           page = page.0;
           is = refl;
-          row_in_range = subst (λ (p : Plan). (1 ≤ row) × (row ≤ p.counts.rows)) (sym (h.views id me.0 at).same_plan) (is_page plan s tree_state h id me.0 at role number some_number in_range awake page.0 page.1).0.0;
+          row_in_range = subst (λ (p : Plan). (1 ≤ row) × (row ≤ p.counts.rows)) (sym (h.views id me.0 at).same_plan) (is_page plan s tree_state h id me.0 at role number some_number in_range awake page.0 page.1).published.0;
           lawful = is_lawful plan s tree_state h id me.0 at role number some_number in_range awake page.0 page.1;
           tells = tells_marked plan s tree_state h id me.0 at role number some_number in_range awake page.0 page.1;
         };

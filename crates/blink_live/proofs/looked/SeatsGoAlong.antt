@@ -19,7 +19,7 @@ plan_counts live table me seat = ap (λ (p : Plan). p.counts) seat.same_plan ∙
 pub noted_in_plan : (counts other : PlainCounts) (look : Look) (number : ℕ) → counts ≡ other → IsNotedLeaf counts look number → IsNotedLeaf other look number
 noted_in_plan counts other look number same leaf = record {
   in_range = subst (λ (c : PlainCounts). (1 ≤ number) × (number < c.numbers)) same leaf.in_range;
-  row = leaf.row;
+  word = leaf.word;
   noted = leaf.noted;
 }
 

@@ -10,7 +10,7 @@ use Rattle.blink_batch.specs.declared.Op.{Op}
 use Rattle.blink_batch.specs.declared.Op.TheVariants.{Find}
 use Rattle.blink_batch.specs.{pointer_of}
 use Rattle.blink_page.specs.{IsKeyOf, least_above}
-use Rattle.blink_rows.specs.{PlainCounts}
+use Rattle.blink_rows.specs.{PlainCounts, row_in}
 use Rattle.blink_rows.specs.Row.{flag}
 use Rattle.blink_machine.specs.declared.machine.State.TheVariants.{Ended}
 use Rattle.blink_machine.specs.{PlainMachine, goes_on}
@@ -78,7 +78,7 @@ pub noted_still : (counts : PlainCounts) (old new : Look) (leaves : List NotedLe
 noted_still counts old new leaves more noted k d inside =
     let was = noted k d inside in
     let leaf : NotedLeaf = get_or leaves k d in
-    record { in_range = was.in_range; noted = λ named. more leaf.number leaf.row (was.noted named) }
+    record { in_range = was.in_range; noted = λ named. more leaf.number leaf.word (was.noted named) }
 
 pub noted_none : (counts : PlainCounts) (look : Look) → AreNotedIn counts look []
 noted_none counts look k d inside = absurd (omega (arith, inside))
@@ -95,7 +95,7 @@ marked_as_seen me new is = subst (λ (x : SeatState). x.0.look.marked ≡ Some x
 
 pub noted_in_marked : (counts : PlainCounts) (me new : SeatState) (leaves : List NotedLeaf) → MarksState me new → AreNotedIn counts me.0.look leaves → AreNotedIn counts new.0.look leaves
 noted_in_marked counts me new leaves is =
-    noted_still counts me.0.look new.0.look leaves (subst (λ (x : SeatState). NotesMore me.0.look x.0.look) (sym is.is) (λ number row has. has))
+    noted_still counts me.0.look new.0.look leaves (subst (λ (x : SeatState). NotesMore me.0.look x.0.look) (sym is.is) (λ number word has. has))
 
 pub searched_marked : (me new : SeatState) → IsIdle me.0 → MarksState me new → HasSearched me new
 searched_marked me new was is = subst (HasSearched me) (sym is.is) record {
@@ -157,8 +157,8 @@ again_beside_row number found me new again = dite (ℕ_discrete found 0)
     (λ blank. subst (IsSameBesideRow me) (sym (again.none blank)) refl)
     (λ named. subst (IsSameBesideRow me) (sym (again.some named).is) refl)
 
-pub reads_noted : (number row key : ℕ) (me new : SeatState) (again : ReadsAgain number me row new) → Contains me.0.look.leaves (number, row) → me.0.look.marked ≡ Some me.0.seen → IsKeyOf again.page key → ReadsLeaf key row new
-reads_noted number row key me new again has marked belongs = record {
+pub reads_noted : (number word key : ℕ) (me new : SeatState) (again : ReadsAgain number me word new) → Contains me.0.look.leaves (number, word) → me.0.look.marked ≡ Some me.0.seen → IsKeyOf again.page key → ReadsLeaf key (row_in word) new
+reads_noted number word key me new again has marked belongs = record {
   leaf = again.page;
   reads = record { reads = ap (λ (x : SeatState). x.0.reads) again.is; lawful = again.lawful has };
   reaches = belongs.1;

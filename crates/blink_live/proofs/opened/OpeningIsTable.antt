@@ -1,5 +1,5 @@
 -- The words of a table that opens are a table: the tree at rest, with its keeper alone.
-use Rattle.std.proofs.Common.{◌≡◌, ℕ, zero, suc, ◌+◌, ◌<◌, ◌≤◌, Option, None, List, [], ◌∷◌, length, refl, sym, subst, inl, inr, arith}
+use Rattle.std.proofs.Common.{◌≡◌, ℕ, zero, suc, ◌+◌, ◌*◌, ◌<◌, ◌≤◌, Option, None, List, [], ◌∷◌, length, refl, sym, ap, ◌∙◌, subst, inl, inr, arith}
 use Rattle.std.specs.Prelude.{Contains, slice_index}
 use Rattle.std.proofs.lemmas.Bool.{cases_lt}
 use Rattle.std.proofs.lemmas.Option.{slice_get_past}
@@ -9,7 +9,7 @@ use Rattle.atomic_table.specs.Table.{opening}
 use Rattle.blink_index.specs.{map_of}
 use Rattle.blink_page.specs.{PlainPage}
 use Rattle.blink_rest.specs.{IsStoreAtRest}
-use Rattle.blink_rows.specs.{PlainCounts, AreBounded, prime_words}
+use Rattle.blink_rows.specs.{PlainCounts, AreBounded, page_words, prime_words, row_in}
 use Rattle.blink_store.specs.{PlainStore, page_of, IsLawfulStore}
 use Rattle.blink_store.proofs.Offered.{has_page, page_there}
 use Rattle.blink_machine.specs.TreeState.{TreeState}
@@ -23,14 +23,15 @@ use Rattle.blink_live.specs.declared.view.View.{View}
 use Rattle.blink_live.specs.Laid.{IsLaidWith}
 use Rattle.blink_live.specs.Reuse.{AgreesWith, AreNamedOnce, HasStock}
 use Rattle.blink_live.specs.Accounts.{AreApart, HasSeenItsOwn, IsAccount, accounts_of}
-use Rattle.blink_live.specs.Rule.{HasNumbers, HasPool, HasRows, Owners, IsPublished, PageWordIs, Knows, IsTable}
+use Rattle.blink_live.specs.Rule.{HasNumbers, HasPool, HasRows, Names, Owners, PageWordIs, Knows, IsTable}
 use Rattle.blink_live.specs.Views.{IsCommon, first_span, first_view, no_stock, span}
-use Rattle.blink_live.specs.Words.{RowBegins}
+use Rattle.blink_live.specs.Words.{named_row}
 use Rattle.blink_live.proofs.table.LooksStay.{nothing_noted}
 use Rattle.blink_live.proofs.table.CallsOfSeats.{nothing_for_call}
 use Rattle.blink_live.proofs.reuse.ReuseStaysSafe.{agrees_with_none, empty_stock}
 use Rattle.blink_live.proofs.table.AccountsStay.{none_apart}
 use Rattle.blink_live.proofs.table.SparesOfSeats.{no_spare}
+use Rattle.blink_live.proofs.table.RowsAreNamed.{names_its_row, no_row_in, row_names_itself}
 
 -- the plan of a table that opens
 abbrev pub plan_over : PlainStore → PlainCounts → ℕ → Plan
@@ -104,7 +105,7 @@ opening_tree_state store at_rest lawful = step_law.opening_has_invariant (tree_s
       all_idle = λ worker. refl;
     }
 
-module _ (store : PlainStore) (counts : PlainCounts) (places : ℕ) (words : List ℕ) (numbers : length store.pages < counts.numbers) (rows : length store.pages < counts.rows) (laid : IsLaidWith counts places store words) where
+module _ (store : PlainStore) (counts : PlainCounts) (places : ℕ) (words : List ℕ) (numbers : length store.pages < counts.numbers) (rows : length store.pages < counts.rows) (bounded : AreBounded counts) (laid : IsLaidWith counts places store words) where
   -- each page word names its page's row
   page_words_are : (number : ℕ) → 1 ≤ number → number < counts.numbers → PageWordIs (plan_over store counts places) (owners_over (length store.pages)) words (slice_index words number) (page_of store number)
   page_words_are number least early =
@@ -116,7 +117,7 @@ module _ (store : PlainStore) (counts : PlainCounts) (places : ℕ) (words : Lis
             let named : slice_index words number ≡ number + 1 = laid.page_words_named number (omega arith) in
             let free = owner_before (length store.pages + 2) (number + 1) (omega arith) in
             subst (λ (t : ℕ × Option PlainPage). PageWordIs plan owners words t.0 t.1) (λ i. (sym named i, sym found.1 i))
-            (((omega arith, omega arith), free), λ i inside few. laid.page_rows number found.0 found.1 i inside)
+            (names_its_row plan owners words (number + 1) (page_words found.0) bounded ((omega arith, omega arith), free) (λ i inside few. laid.page_rows number found.0 found.1 i inside))
         | inr more ↦ subst (PageWordIs plan owners words (slice_index words number)) (sym (no_page_past store number (omega arith))) (laid.no_more number (omega arith) (omega arith))
       ]
 
@@ -175,31 +176,38 @@ module _ (store : PlainStore) (counts : PlainCounts) (places : ℕ) (words : Lis
     places_left = λ dealt back is place from. (refl, λ inside. laid.blank_places place inside);
   }
 
+  -- the rows that page words name
+  named : (number : ℕ) → number ≤ length store.pages → named_row words number ≡ number + 1
+  named number few = ap row_in (laid.page_words_named number few) ∙ row_names_itself (plan_over store counts places) (number + 1) bounded (omega (arith, few, rows))
+
+  unnamed : (number : ℕ) → length store.pages < number → number < 2 * counts.numbers → named_row words number ≡ 0
+  unnamed number more inside = no_row_in (slice_index words number) (laid.no_more number more inside)
+
   -- each page has a row of its own
   once : AreNamedOnce counts words
   once one other few_one few_other least same =
       elim (cases_lt one (length store.pages + 1)) [
         | inl less ↦ elim (cases_lt other (length store.pages + 1)) [
           | inl also ↦
-              let first = laid.page_words_named one (omega arith) in
-              let second = laid.page_words_named other (omega arith) in
+              let first = named one (omega arith) in
+              let second = named other (omega arith) in
               omega arith
           | inr more ↦
-              let none = laid.no_more other (omega arith) (omega arith) in
+              let none = unnamed other (omega arith) (omega arith) in
               absurd (omega arith)
         ]
         | inr more ↦
-            let none = laid.no_more one (omega arith) (omega arith) in
+            let none = unnamed one (omega arith) (omega arith) in
             absurd (omega arith)
       ]
 
   -- the table of a tree at rest, as it opens
-  pub opens : IsStoreAtRest store → IsLawfulStore store → IsMapOf store (map_of store) → AreBounded counts
+  pub opens : IsStoreAtRest store → IsLawfulStore store → IsMapOf store (map_of store)
       → IsTable (plan_over store counts places) (opening words [] (first_view (length store.pages) (plan_over store counts places)))
-  opens at_rest lawful is_map bounded =
+  opens at_rest lawful is_map =
       let plan = plan_over store counts places in
       let owners = owners_over (length store.pages) in
-      let named : slice_index words 0 ≡ 1 = laid.page_words_named 0 (omega arith) in (
+      let first_named : slice_index words 0 ≡ 1 = laid.page_words_named 0 (omega arith) in (
         tree_state_over store,
         record {
           owners = owners;
@@ -210,8 +218,8 @@ module _ (store : PlainStore) (counts : PlainCounts) (places : ℕ) (words : Lis
           prime_numbers = lawful.prime_numbers;
           bounded = bounded;
           width = laid.width;
-          prime = subst (λ (row : ℕ). IsPublished plan owners row × RowBegins counts words row (prime_words store.prime)) (sym named)
-              (((omega arith, omega arith), owner_before (length store.pages + 2) 1 (omega arith)), λ i inside few. laid.prime_row i inside);
+          prime = subst (λ (word : ℕ). Names plan owners words word (prime_words store.prime)) (sym first_named)
+              (names_its_row plan owners words 1 (prime_words store.prime) bounded ((omega arith, omega arith), owner_before (length store.pages + 2) 1 (omega arith)) (λ i inside few. laid.prime_row i inside));
           pages = page_words_are;
           no_other_page = λ number late. no_page_past store number (omega arith);
           no_other_latch = λ number late. refl;

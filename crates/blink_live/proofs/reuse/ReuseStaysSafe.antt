@@ -3,6 +3,7 @@ use Rattle.std.proofs.Common.{◌≡◌, ◌≢◌, ◌⊎◌, ⊎_elim, ℕ, su
 use Rattle.std.specs.Prelude.{Contains, slice_index}
 use mathlib.Core.Option.{some}
 use lib.ListN.{get_elem?}
+use Rattle.blink_rows.specs.{row_in}
 use Rattle.blink_rows.specs.declared.span.Span.{Span}
 use Rattle.blink_live.specs.declared.view.Aside.{Aside}
 use Rattle.blink_live.specs.declared.view.Look.{Look}
@@ -10,8 +11,9 @@ use Rattle.blink_live.specs.declared.view.Plan.{Plan}
 use Rattle.blink_live.specs.declared.view.Role.TheVariants.{Pass}
 use Rattle.blink_live.specs.declared.view.Stock.{Stock}
 use Rattle.blink_live.specs.declared.view.View.{View}
-use Rattle.blink_live.specs.Reuse.{AgreesWith, AreNamedOnce, HasAside, HasRowsOnce, HasStock, HoldsRow, IsAside, IsAtHand, IsReadBesides, IsReuseSafe, IsTakenOut, IsWithin}
+use Rattle.blink_live.specs.Reuse.{AgreesWith, AreNamedOnce, HasAside, HasRowsOnce, HasStock, HoldsRow, IsAside, IsAtHand, IsReadBesides, IsReuseSafe, IsTakenOut, IsWithin, HasNoted}
 use Rattle.blink_live.specs.Views.{no_aside, no_look, no_stock, with_spare}
+use Rattle.blink_live.specs.Words.{named_row}
 use Rattle.blink_live.proofs.table.LooksStay.{none_noted}
 use Rattle.blink_live.proofs.table.PassesOut.{at_end}
 use Rattle.blink_live.proofs.table.SeatsThatStay.{views_stay}
@@ -20,12 +22,12 @@ use Rattle.blink_live.proofs.table.SeatsThatStay.{views_stay}
 pub holds_nothing : (u : View) → u.reads ≡ None → u.look ≡ no_look → (row : ℕ) (content : List ℕ) → ¬ HoldsRow u row content
 holds_nothing u none unnoted row content is = ⊎_elim
     (λ (reads : u.reads ≡ Some (row, content)). let e : None ≡ Some (row, content) = sym none ∙ reads in cc)
-    (λ (noted : (number : ℕ) × Contains u.look.leaves (number, row)). none_noted noted.0 row (subst (λ (l : Look). Contains l.leaves (noted.0, row)) unnoted noted.1)) is
+    (λ (noted : HasNoted u.look row). none_noted noted.0 noted.1 (subst (λ (l : Look). Contains l.leaves (noted.0, noted.1)) unnoted noted.2)) is
 
 -- one that reads and has noted the same holds the same rows
 pub holds_same : (v w : View) → w.reads ≡ v.reads → w.look.leaves ≡ v.look.leaves → (row : ℕ) (content : List ℕ) → HoldsRow w row content → HoldsRow v row content
 holds_same v w reads look row content is = ⊎_elim (λ (its : w.reads ≡ Some (row, content)). inl (sym reads ∙ its))
-    (λ (noted : (number : ℕ) × Contains w.look.leaves (number, row)). inr (noted.0, subst (λ (l : List (ℕ × ℕ)). Contains l (noted.0, row)) look noted.1)) is
+    (λ (noted : HasNoted w.look row). inr (noted.0, noted.1, subst (λ (l : List (ℕ × ℕ)). Contains l (noted.0, noted.1)) look noted.2, noted.3)) is
 
 -- it agrees with every stock
 pub reads_nothing : (stock : Stock) (u : View) → u.reads ≡ None → u.look ≡ no_look → AgreesWith stock u
@@ -137,7 +139,7 @@ row_is row other content words is = let same : ◌≡◌ {A = ℕ × List ℕ} (
 -- the seat holds what it held, or a row that a page word names
 pub record MayRead (plan : Plan) (words : List ℕ) (v w : View) (row : ℕ) : Type 0 where
   pub awake : (w.role ≡ Pass) × (2 ≤ w.busy)
-  pub from : ((content : List ℕ) × HoldsRow v row content × (w.place ≡ v.place) × (w.busy ≡ v.busy)) ⊎ ((number : ℕ) × (number < plan.counts.numbers) × (slice_index words number ≡ row))
+  pub from : ((content : List ℕ) × HoldsRow v row content × (w.place ≡ v.place) × (w.busy ≡ v.busy)) ⊎ ((number : ℕ) × (number < plan.counts.numbers) × (named_row words number ≡ row))
 
 abbrev pub MayReadOn : Plan → List ℕ → View → View → Type 0
 MayReadOn plan words v w = (row : ℕ) (content : List ℕ) → HoldsRow w row content → MayRead plan words v w row
@@ -170,7 +172,7 @@ module _ (plan : Plan) (whose : ℕ → ℕ) (words : List ℕ) (views : List Vi
               same = λ few. t.3 ∙ (held.same (omega (arith, few, same_place)) ∙ ap (slice_index u.stock.before) (sym same_place));
             };
       })
-      (λ (t : (number : ℕ) × (number < plan.counts.numbers) × (slice_index words number ≡ row)).
+      (λ (t : (number : ℕ) × (number < plan.counts.numbers) × (named_row words number ≡ row)).
       let stock = safe.stocks seat u there in
       record {
         not_free = λ has. (stock.free row has).not_named t.0 t.1 t.2;
@@ -185,13 +187,13 @@ module _ (plan : Plan) (whose : ℕ → ℕ) (words : List ℕ) (views : List Vi
       in_range = is.in_range;
       unowned = published row is.unowned;
       claimed = is.claimed;
-      not_named = λ number few e. is.not_named number few (sym (named number few) ∙ e);
+      not_named = λ number few e. is.not_named number few (sym (ap row_in (named number few)) ∙ e);
     }
 
     once_still : AreNamedOnce plan.counts then
     once_still one other few_one few_other least same =
-        let first = named one few_one in
-        safe.named_once one other few_one few_other (omega (arith, least, first)) (sym first ∙ (same ∙ named other few_other))
+        let first : named_row then one ≡ named_row words one = ap row_in (named one few_one) in
+        safe.named_once one other few_one few_other (omega (arith, least, first)) (sym first ∙ (same ∙ ap row_in (named other few_other)))
 
     -- the seat has these page numbers beside
     pub reuse_beside : (spare : Span) → w.stock ≡ with_spare spare v.stock → ((row : ℕ) → IsAtHand w row → IsAtHand v row ⊎ (whose row ≢ suc id)) → MayReadOn plan words v w → IsReuseSafe plan new then (set views id w)
@@ -231,11 +233,11 @@ module _ (plan : Plan) (whose : ℕ → ℕ) (words : List ℕ) (views : List Vi
 
 -- it reads a row that a page word names
 pub reads_named : (plan : Plan) (words : List ℕ) (v w : View) (number row : ℕ) (content : List ℕ) → w.reads ≡ Some (row, content) → w.look.leaves ≡ v.look.leaves → w.place ≡ v.place → w.busy ≡ v.busy → w.role ≡ Pass → 2 ≤ w.busy
-    → number < plan.counts.numbers → slice_index words number ≡ row → MayReadOn plan words v w
+    → number < plan.counts.numbers → named_row words number ≡ row → MayReadOn plan words v w
 reads_named plan words v w number row content reads look place busy role awake few named other its is = record {
   awake = (role, awake);
   from = ⊎_elim (λ (now : w.reads ≡ Some (other, its)). inr (number, few, named ∙ row_is row other content its (sym reads ∙ now)))
-      (λ (noted : (k : ℕ) × Contains w.look.leaves (k, other)). inl (its, inr (noted.0, subst (λ (l : List (ℕ × ℕ)). Contains l (noted.0, other)) look noted.1), place, busy)) is;
+      (λ (noted : HasNoted w.look other). inl (its, inr (noted.0, noted.1, subst (λ (l : List (ℕ × ℕ)). Contains l (noted.0, noted.1)) look noted.2, noted.3), place, busy)) is;
 }
 
 -- ---- one more seat

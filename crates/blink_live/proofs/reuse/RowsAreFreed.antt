@@ -6,6 +6,7 @@ use lib.ListN.{get_elem?}
 use lib.Seq.{set-get_or}
 use Rattle.atomic_table.specs.Table.{State, step, keeps, Allows}
 use Rattle.blink_page.specs.{PlainPage}
+use Rattle.blink_rows.specs.{page_words, prime_words, row_in}
 use Rattle.blink_machine.specs.TreeState.{TreeState}
 use Rattle.blink_live.specs.declared.view.Plan.{Plan}
 use Rattle.blink_live.specs.declared.view.Role.TheVariants.{Keeper, Pass}
@@ -13,9 +14,10 @@ use Rattle.blink_live.specs.declared.view.View.{View}
 use Rattle.blink_live.specs.Changes.{put}
 use Rattle.blink_live.specs.ComingBack.{frees_last, frees_row}
 use Rattle.blink_live.specs.Looks.{HasLooked}
-use Rattle.blink_live.specs.Reuse.{AgreesWith, HasAside, HasRowsOnce, HasStock, HoldsRow, IsReuseSafe, IsTakenOut}
+use Rattle.blink_live.specs.Reuse.{AgreesWith, HasAside, HasNoted, HasRowsOnce, HasStock, HoldsRow, IsReuseSafe, IsTakenOut}
 use Rattle.blink_live.specs.Rule.{IsInRole, IsTable, IsTableAt, Knows, Owners, PageWordIs, Reads, ReadsRow, latch_word}
 use Rattle.blink_live.specs.Views.{IsCommon, SeatState}
+use Rattle.blink_live.specs.Words.{named_row}
 use Rattle.blink_live.proofs.changed.PoolIsDrawn.{latch_still}
 use Rattle.blink_live.proofs.dealt.FirstOrOneOfRest.{contains_case}
 use Rattle.blink_live.proofs.reuse.ReuseStaysSafe.{aside_kept, safe_then, stock_kept}
@@ -25,6 +27,7 @@ use Rattle.blink_live.proofs.table.AccountsStay.{accounts_stay}
 use Rattle.blink_live.proofs.table.CallsOfSeats.{call_still}
 use Rattle.blink_live.proofs.table.LooksStay.{looks_stay}
 use Rattle.blink_live.proofs.table.MapsWithOneChange.{put_here, put_else}
+use Rattle.blink_live.proofs.table.RowsAreNamed.{names_still, no_row_in}
 use Rattle.blink_live.proofs.table.SeatsThatStay.{views_stay, counted_stays}
 use Rattle.blink_live.proofs.table.SparesOfSeats.{spare_still}
 
@@ -75,23 +78,23 @@ module _ (plan : Plan) (s : State ℕ View) (tree_state : TreeState) (h : IsTabl
 
   page_still : (word : ℕ) (page : Option PlainPage) → PageWordIs plan h.owners s.words word page → PageWordIs plan new s.words word page
   page_still word None is = is
-  page_still word (Some page) is = ((is.0.0, published_still word is.0.1), is.1)
+  page_still word (Some page) is = names_still plan h.owners new s.words word (page_words page) (published_still (row_in word) is.published.1) is
 
   -- ---- no page word names it, and nobody reads it
 
-  named_differs : (word : ℕ) (page : Option PlainPage) → PageWordIs plan h.owners s.words word page → word ≢ row
-  named_differs word None is e = let least = in_range.0 in omega (arith, is, e, least)
-  named_differs word (Some page) is e = differs word is.0.1 e
+  named_differs : (word : ℕ) (page : Option PlainPage) → PageWordIs plan h.owners s.words word page → row_in word ≢ row
+  named_differs word None is e = let least = in_range.0 in let none = no_row_in word is in omega (arith, none, e, least)
+  named_differs word (Some page) is e = differs (row_in word) is.published.1 e
 
-  unnamed : (number : ℕ) → number < plan.counts.numbers → slice_index s.words number ≢ row
-  unnamed zero few = differs (slice_index s.words 0) h.prime.0.1
+  unnamed : (number : ℕ) → number < plan.counts.numbers → named_row s.words number ≢ row
+  unnamed zero few = differs (named_row s.words 0) h.prime.published.1
   unnamed (suc n) few = named_differs (slice_index s.words (suc n)) (tree_state.pages (suc n)) (h.pages (suc n) (omega arith) few)
 
   held_unowned : (seat : ℕ) (u : View) → get_elem? s.views seat ≡ some u → (r : ℕ) (content : List ℕ) → HoldsRow u r content → h.owners.row r ≡ 0
   held_unowned seat u there r content is =
       let reads = (h.views seat u there).reads in
       ⊎_elim (λ (now : u.reads ≡ Some (r, content)). (subst (ReadsRow plan h.owners s.words) now reads.0).0.1)
-      (λ (noted : (number : ℕ) × Contains u.look.leaves (number, r)). (reads.1 noted.0 r noted.1).unowned) is
+      (λ (noted : HasNoted u.look r). subst (λ (x : ℕ). h.owners.row x ≡ 0) noted.3 (reads.1 noted.0 noted.1 noted.2).unowned) is
 
   -- ---- what the seats know
 
@@ -101,7 +104,7 @@ module _ (plan : Plan) (s : State ℕ View) (tree_state : TreeState) (h : IsTabl
 
   looks_then : (u : View) → HasLooked plan h.owners.row s.words tree_state.fan tree_state.prime tree_state.pages u.look → HasLooked plan whose s.words tree_state.fan tree_state.prime tree_state.pages u.look
   looks_then u = looks_stay plan h.owners.row whose s.words s.words tree_state.fan tree_state.fan tree_state.prime tree_state.prime tree_state.pages tree_state.pages u.look
-      (λ number r has row_in_range unowned. published_still r unowned) (λ number in_chain. in_chain) (λ number r least few unowned is. (is, refl))
+      (λ number word has row_in_range unowned. published_still (row_in word) unowned) (λ number in_chain. in_chain) (λ number word least few unowned is. (is, refl))
 
   reads_all : (u : View) → Reads plan h.owners s.words tree_state u → Reads plan new s.words tree_state u
   reads_all u is = (reads_then u.reads is.0, looks_then u is.1)
@@ -205,7 +208,7 @@ module _ (plan : Plan) (s : State ℕ View) (tree_state : TreeState) (h : IsTabl
           prime_numbers = h.prime_numbers;
           bounded = h.bounded;
           width = h.width;
-          prime = ((h.prime.0.0, published_still (slice_index s.words 0) h.prime.0.1), h.prime.1);
+          prime = names_still plan h.owners new s.words (slice_index s.words 0) (prime_words tree_state.prime) (published_still (named_row s.words 0) h.prime.published.1) h.prime;
           pages = λ number least few. page_still (slice_index s.words number) (tree_state.pages number) (h.pages number least few);
           no_other_page = h.no_other_page;
           no_other_latch = h.no_other_latch;

@@ -1,5 +1,5 @@
 -- A page word that names another row takes out the row that it named, and keeps reuse safe.
-use Rattle.std.proofs.Common.{◌≡◌, ◌≢◌, ◌⊎◌, ℕ, suc, ◌<◌, ◌≤◌, Option, Some, None, List, ◌∷◌, set, refl, sym, ap, ◌∙◌, subst, get_or-set_same, get_or-set_other, arith}
+use Rattle.std.proofs.Common.{◌≡◌, ◌≢◌, ◌⊎◌, ⊎_elim, ℕ, suc, ◌<◌, ◌≤◌, Option, Some, None, List, ◌∷◌, set, refl, sym, ap, ◌∙◌, subst, get_or-set_same, get_or-set_other, arith}
 use Rattle.std.specs.Prelude.{Contains, slice_index}
 use mathlib.Core.Option.{some}
 use mathlib.Core.Logic.{dite}
@@ -7,22 +7,25 @@ use native.Mathlib.Decide.{ℕ_discrete}
 use lib.ListN.{get_elem?}
 use Rattle.atomic_table.specs.Table.{State}
 use Rattle.blink_page.specs.{PlainPage}
+use Rattle.blink_rows.specs.{row_in}
 use Rattle.blink_machine.specs.TreeState.{TreeState}
 use Rattle.blink_live.specs.declared.view.Plan.{Plan}
 use Rattle.blink_live.specs.declared.view.Stock.{Stock}
 use Rattle.blink_live.specs.declared.view.View.{View}
 use Rattle.blink_live.specs.Changes.{put}
-use Rattle.blink_live.specs.Reuse.{AgreesWith, AreNamedOnce, HasRowsOnce, HasStock, IsAtHand, IsReuseSafe, IsTakenOut}
+use Rattle.blink_live.specs.Reuse.{AgreesWith, AreNamedOnce, HasRowsOnce, HasStock, IsAtHand, IsReuseSafe, IsTakenOut, IsWithin}
 use Rattle.blink_live.specs.Rule.{IsPublished, IsTableAt, Owners, PageWordIs}
 use Rattle.blink_live.specs.Views.{takes_out}
+use Rattle.blink_live.specs.Words.{named_row}
 use Rattle.blink_live.proofs.dealt.FirstOrOneOfRest.{contains_case}
 use Rattle.blink_live.proofs.reuse.ReuseStaysSafe.{agrees_on, aside_kept, same_reads, safe_then, stock_kept}
 use Rattle.blink_live.proofs.table.MapsWithOneChange.{put_here, put_else}
+use Rattle.blink_live.proofs.table.RowsAreNamed.{no_row_in, row_names_itself}
 
 -- a row that a page word names is published
-word_is_published : (plan : Plan) (owners : Owners) (words : List ℕ) (word : ℕ) (page : Option PlainPage) → 1 ≤ word → PageWordIs plan owners words word page → IsPublished plan owners word
-word_is_published plan owners words word None least is = absurd (omega (arith, least, is))
-word_is_published plan owners words word (Some page) least is = is.0
+word_is_published : (plan : Plan) (owners : Owners) (words : List ℕ) (word : ℕ) (page : Option PlainPage) → 1 ≤ row_in word → PageWordIs plan owners words word page → IsPublished plan owners (row_in word)
+word_is_published plan owners words word None least is = let none = no_row_in word is in absurd (omega (arith, least, none))
+word_is_published plan owners words word (Some page) least is = is.published
 
 module _ (plan : Plan) (s : State ℕ View) (tree_state : TreeState) (h : IsTableAt plan s tree_state) (id number row : ℕ) (v w : View) (at : get_elem? s.views id ≡ some v) (safe : IsReuseSafe plan h.owners.row s.words s.views)
     (in_range : number < plan.counts.numbers) (own : h.owners.row row ≡ suc id) (same_reads_as : w.reads ≡ v.reads) (same_role : w.role ≡ v.role) (same_busy : w.busy ≡ v.busy) (same_place : w.place ≡ v.place) (same_look : w.look.leaves ≡ v.look.leaves)
@@ -34,38 +37,48 @@ module _ (plan : Plan) (s : State ℕ View) (tree_state : TreeState) (h : IsTabl
   new = put h.owners.row row 0
 
   abbrev out : ℕ
-  out = slice_index s.words number
+  out = named_row s.words number
 
   its : HasStock plan h.owners.row s.words safe.claim id v
   its = safe.stocks id v at
 
-  named_is_published : (n : ℕ) → n < plan.counts.numbers → 1 ≤ slice_index s.words n → IsPublished plan h.owners (slice_index s.words n)
+  named_is_published : (n : ℕ) → n < plan.counts.numbers → 1 ≤ named_row s.words n → IsPublished plan h.owners (named_row s.words n)
   named_is_published n few least = dite (ℕ_discrete n 0)
-      (λ first. subst (λ (k : ℕ). IsPublished plan h.owners (slice_index s.words k)) (sym first) h.prime.0)
+      (λ first. subst (λ (k : ℕ). IsPublished plan h.owners (named_row s.words k)) (sym first) h.prime.published)
       (λ later. word_is_published plan h.owners s.words (slice_index s.words n) (tree_state.pages n) least (h.pages n (omega (arith, later)) few))
 
   -- the row that gets published isn't published yet
   not_the_row : (r : ℕ) → h.owners.row r ≡ 0 → r ≢ row
   not_the_row r unowned e = let one : 0 ≡ suc id = sym unowned ∙ (ap h.owners.row e ∙ own) in omega (arith, one)
 
-  here : slice_index then number ≡ row
-  here = let wide = h.width in get_or-set_same s.words number row 0 (omega (arith, wide, in_range))
+  row_inside : row ≤ plan.counts.rows
+  row_inside =
+      let known = h.views id v at in
+      let last = known.rows.in_range.1 in
+      let last_of_call = known.for_call.others.in_range.1 in
+      ⊎_elim (λ (t : IsWithin v.rows row). omega (arith, t, last)) (λ (t : IsWithin v.call.rows row). omega (arith, t, last_of_call)) at_hand
 
-  elsewhere : (n : ℕ) → n ≢ number → slice_index then n ≡ slice_index s.words n
-  elsewhere n differ = get_or-set_other s.words number n row 0 differ
+  here : named_row then number ≡ row
+  here =
+      let wide = h.width in
+      let word : slice_index then number ≡ row = get_or-set_same s.words number row 0 (omega (arith, wide, in_range)) in
+      ap row_in word ∙ row_names_itself plan row h.bounded row_inside
+
+  elsewhere : (n : ℕ) → n ≢ number → named_row then n ≡ named_row s.words n
+  elsewhere n differ = let word : slice_index then n ≡ slice_index s.words n = get_or-set_other s.words number n row 0 differ in ap row_in word
 
   once_then : AreNamedOnce plan.counts then
   once_then one other few_one few_other least same = dite (ℕ_discrete one number)
       (λ first. dite (ℕ_discrete other number) (λ second. first ∙ sym second)
       (λ differ.
-      let named : slice_index s.words other ≡ row = sym (elsewhere other differ) ∙ (sym same ∙ (ap (slice_index then) first ∙ here)) in
-      let at_least : 1 ≤ slice_index s.words other = let here_now : slice_index then one ≡ slice_index s.words other = same ∙ elsewhere other differ in omega (arith, least, here_now) in
-      absurd (not_the_row (slice_index s.words other) (named_is_published other few_other at_least).1 named)))
+      let named : named_row s.words other ≡ row = sym (elsewhere other differ) ∙ (sym same ∙ (ap (named_row then) first ∙ here)) in
+      let at_least : 1 ≤ named_row s.words other = let here_now : named_row then one ≡ named_row s.words other = same ∙ elsewhere other differ in omega (arith, least, here_now) in
+      absurd (not_the_row (named_row s.words other) (named_is_published other few_other at_least).1 named)))
       (λ apart.
-      let was : slice_index then one ≡ slice_index s.words one = elsewhere one apart in
-      let at_least : 1 ≤ slice_index s.words one = omega (arith, least, was) in
+      let was : named_row then one ≡ named_row s.words one = elsewhere one apart in
+      let at_least : 1 ≤ named_row s.words one = omega (arith, least, was) in
       dite (ℕ_discrete other number)
-      (λ second. absurd (not_the_row (slice_index s.words one) (named_is_published one few_one at_least).1 (sym was ∙ (same ∙ (ap (slice_index then) second ∙ here)))))
+      (λ second. absurd (not_the_row (named_row s.words one) (named_is_published one few_one at_least).1 (sym was ∙ (same ∙ (ap (named_row then) second ∙ here)))))
       (λ differ. safe.named_once one other few_one few_other at_least (sym was ∙ (same ∙ elsewhere other differ))))
 
   out_then : (now : ℕ → ℕ) (seat r : ℕ) → now r ≡ safe.claim r → IsTakenOut plan h.owners.row s.words safe.claim seat r → IsTakenOut plan new then now seat r
@@ -74,7 +87,7 @@ module _ (plan : Plan) (s : State ℕ View) (tree_state : TreeState) (h : IsTabl
     unowned = put_else h.owners.row row r 0 (not_the_row r is.unowned) ∙ is.unowned;
     claimed = same ∙ is.claimed;
     not_named = λ n few e. dite (ℕ_discrete n number)
-        (λ it. not_the_row r is.unowned (sym e ∙ (ap (slice_index then) it ∙ here)))
+        (λ it. not_the_row r is.unowned (sym e ∙ (ap (named_row then) it ∙ here)))
         (λ differ. is.not_named n few (sym (elsewhere n differ) ∙ e));
   }
 
@@ -107,7 +120,7 @@ module _ (plan : Plan) (s : State ℕ View) (tree_state : TreeState) (h : IsTabl
 
   -- ---- another version of a page: its row is taken out
 
-  module _ (published : IsPublished plan h.owners (slice_index s.words number)) (same_stock : w.stock ≡ takes_out (slice_index s.words number) v.stock) where
+  module _ (published : IsPublished plan h.owners (named_row s.words number)) (same_stock : w.stock ≡ takes_out (named_row s.words number) v.stock) where
     abbrev claim : ℕ → ℕ
     claim = put safe.claim out (suc id)
 
@@ -121,9 +134,9 @@ module _ (plan : Plan) (s : State ℕ View) (tree_state : TreeState) (h : IsTabl
       unowned = put_else h.owners.row row out 0 (not_the_row out published.1) ∙ published.1;
       claimed = put_here safe.claim out (suc id);
       not_named = λ n few e. dite (ℕ_discrete n number)
-          (λ it. not_the_row out published.1 (sym e ∙ (ap (slice_index then) it ∙ here)))
+          (λ it. not_the_row out published.1 (sym e ∙ (ap (named_row then) it ∙ here)))
           (λ differ. let at_least = published.0.0 in
-          let same : slice_index s.words n ≡ out = sym (elsewhere n differ) ∙ e in
+          let same : named_row s.words n ≡ out = sym (elsewhere n differ) ∙ e in
           differ (safe.named_once n number few in_range (omega (arith, at_least, same)) same));
     }
 

@@ -8,6 +8,7 @@ use lib.ListN.{get_elem?}
 use lib.Seq.{set-get_or}
 use Rattle.atomic_table.specs.Table.{State, step, keeps, Allows}
 use Rattle.blink_page.specs.{PlainPage}
+use Rattle.blink_rows.specs.{page_words, prime_words, row_in}
 use Rattle.blink_machine.specs.TreeState.{TreeState}
 use Rattle.blink_machine.proofs.Offered.{step_law}
 use Rattle.blink_live.specs.declared.view.Change.{Change}
@@ -22,7 +23,7 @@ use Rattle.blink_live.specs.Looks.{HasLooked}
 use Rattle.blink_live.specs.Reuse.{AgreesWith, HasAside, HasEachOnce, HasStock, IsAside, IsReuseSafe, IsTakenOut}
 use Rattle.blink_live.specs.Rule.{IsInRole, IsShare, IsTable, IsTableAt, Knows, Owners, PageWordIs, Reads, ReadsRow, latch_word}
 use Rattle.blink_live.specs.Views.{IsCommon, SeatState}
-use Rattle.blink_live.specs.Words.{IsRowNumber}
+use Rattle.blink_live.specs.Words.{IsRowNumber, named_row}
 use Rattle.blink_live.proofs.changed.PoolIsDrawn.{latch_still}
 use Rattle.blink_live.proofs.reuse.ReuseStaysSafe.{empty_aside, safe_then, stock_kept}
 use Rattle.blink_live.proofs.reuse.StocksChange.{same_reader}
@@ -30,6 +31,7 @@ use Rattle.blink_live.proofs.table.AccountsStay.{accounts_stay}
 use Rattle.blink_live.proofs.table.CallsOfSeats.{call_still}
 use Rattle.blink_live.proofs.table.LoadsKeepTable.{moved, load_keeps_with}
 use Rattle.blink_live.proofs.table.LooksStay.{looks_stay}
+use Rattle.blink_live.proofs.table.RowsAreNamed.{names_still}
 use Rattle.blink_live.proofs.table.MapsWithOneChange.{put_here, put_else, put_same}
 use Rattle.blink_live.proofs.table.SeatsThatStay.{views_stay, counted_stays}
 use Rattle.blink_live.proofs.table.SparesOfSeats.{spare_still}
@@ -111,12 +113,12 @@ module _ (plan : Plan) (s : State ℕ View) (tree_state : TreeState) (h : IsTabl
   owns : (owner r : ℕ) → h.owners.row r ≡ suc owner → whose r ≡ suc owner
   owns owner r is = else_same r (λ e. let one : suc owner ≡ 0 = sym is ∙ (ap h.owners.row e ∙ is_out.unowned) in omega (arith, one)) ∙ is
 
-  named_still : (number : ℕ) → number < plan.counts.numbers → h.owners.row (slice_index s.words number) ≡ 0 → whose (slice_index s.words number) ≡ 0
-  named_still number few is = else_same (slice_index s.words number) (is_out.not_named number few) ∙ is
+  named_still : (number : ℕ) → number < plan.counts.numbers → h.owners.row (named_row s.words number) ≡ 0 → whose (named_row s.words number) ≡ 0
+  named_still number few is = else_same (named_row s.words number) (is_out.not_named number few) ∙ is
 
   page_still : (number : ℕ) → number < plan.counts.numbers → (page : Option PlainPage) → PageWordIs plan h.owners s.words (slice_index s.words number) page → PageWordIs plan new s.words (slice_index s.words number) page
   page_still number few None is = is
-  page_still number few (Some page) is = ((is.0.0, named_still number few is.0.1), is.1)
+  page_still number few (Some page) is = names_still plan h.owners new s.words (slice_index s.words number) (page_words page) (named_still number few is.published.1) is
 
   -- nobody reads it
   reads_then : (seat : ℕ) (u : View) → get_elem? s.views seat ≡ some u → (reads : Option (ℕ × List ℕ)) → u.reads ≡ reads → ReadsRow plan h.owners s.words reads → ReadsRow plan new s.words reads
@@ -127,7 +129,8 @@ module _ (plan : Plan) (s : State ℕ View) (tree_state : TreeState) (h : IsTabl
   -- nor has anybody noted it
   looks_then : (seat : ℕ) (u : View) → get_elem? s.views seat ≡ some u → HasLooked plan h.owners.row s.words tree_state.fan tree_state.prime tree_state.pages u.look → HasLooked plan whose s.words tree_state.fan tree_state.prime tree_state.pages u.look
   looks_then seat u there = looks_stay plan h.owners.row whose s.words s.words tree_state.fan tree_state.fan tree_state.prime tree_state.prime tree_state.pages tree_state.pages u.look
-      (λ number r has in_range unowned. else_same r (λ e. (safe.agree id seat v u at there r [] (inr (number, has))).not_free (subst (Contains v.stock.free) (sym e) row_is_free)) ∙ unowned) (λ number in_chain. in_chain) (λ number r least few unowned is. (is, refl))
+      (λ number word has in_range unowned. else_same (row_in word) (λ e. (safe.agree id seat v u at there (row_in word) [] (inr (number, word, has, refl))).not_free (subst (Contains v.stock.free) (sym e) row_is_free)) ∙ unowned) (λ number in_chain. in_chain)
+      (λ number word least few unowned is. (is, refl))
 
   reads_all : (seat : ℕ) (u : View) → get_elem? s.views seat ≡ some u → Reads plan h.owners s.words tree_state u → Reads plan new s.words tree_state u
   reads_all seat u there is = (reads_then seat u there u.reads refl is.0, looks_then seat u there is.1)
@@ -241,7 +244,7 @@ module _ (plan : Plan) (s : State ℕ View) (tree_state : TreeState) (h : IsTabl
           prime_numbers = h.prime_numbers;
           bounded = h.bounded;
           width = h.width;
-          prime = ((h.prime.0.0, named_still 0 (omega (arith, some_number)) h.prime.0.1), h.prime.1);
+          prime = names_still plan h.owners new s.words (slice_index s.words 0) (prime_words tree_state.prime) (named_still 0 (omega (arith, some_number)) h.prime.published.1) h.prime;
           pages = λ number least few. page_still number few (tree_state.pages number) (h.pages number least few);
           no_other_page = h.no_other_page;
           no_other_latch = h.no_other_latch;

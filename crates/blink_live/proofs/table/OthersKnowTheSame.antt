@@ -9,7 +9,7 @@ use lib.ListN.{get_elem?}
 use Rattle.atomic_table.specs.Table.{State}
 use Rattle.blink_batch.specs.{pointer_of}
 use Rattle.blink_page.specs.{PlainPage}
-use Rattle.blink_rows.specs.{page_words}
+use Rattle.blink_rows.specs.{page_words, row_in}
 use Rattle.blink_rows.specs.declared.limits.TheConstants.{ROW_WORDS}
 use Rattle.blink_rows.specs.declared.span.Span.{Span}
 use Rattle.blink_machine.specs.{PlainMachine, descent_bound}
@@ -22,7 +22,7 @@ use Rattle.blink_live.specs.declared.view.Share.{Share}
 use Rattle.blink_live.specs.declared.view.View.{View}
 use Rattle.blink_live.specs.Changes.{after, states_of}
 use Rattle.blink_live.specs.Looks.{IsLeafInChain}
-use Rattle.blink_live.specs.Rule.{HasNothing, HasPool, Owners, IsPublished, PageWordIs, Reads, ReadsRow, HasRows, HasNumbers, HasForCall, HasSpare, IsShare, IsInRole, Knows, IsTableAt}
+use Rattle.blink_live.specs.Rule.{HasNothing, HasPool, Owners, IsPublished, PageWordIs, Reads, ReadsRow, HasRows, HasNumbers, HasForCall, HasSpare, IsShare, IsInRole, Knows, IsTableAt, Names}
 use Rattle.blink_live.specs.Views.{IsCommon, IsOwned, span}
 use Rattle.blink_live.specs.Words.{place_word, row_start, RowBegins}
 use Rattle.blink_live.proofs.table.LooksStay.{looks_stay}
@@ -49,7 +49,7 @@ pub record LeavesOthers (plan : Plan) (s : State ℕ View) (tree_state then : Tr
   pub latch_numbers : (seat : ℕ) → new.latch_number seat ≡ h.owners.latch_number seat
   pub longer : (seen : List Change) → IsPrefix seen h.log → IsPrefix seen log
   pub in_chain : (number : ℕ) → IsLeafInChain tree_state.fan tree_state.prime tree_state.pages number → IsLeafInChain then.fan then.prime then.pages number
-  pub named : (number row : ℕ) → 1 ≤ number → number < plan.counts.numbers → h.owners.row row ≡ 0 → slice_index words number ≡ row → (slice_index s.words number ≡ row) × (then.pages number ≡ tree_state.pages number)
+  pub named : (number word : ℕ) → 1 ≤ number → number < plan.counts.numbers → h.owners.row (row_in word) ≡ 0 → slice_index words number ≡ word → (slice_index s.words number ≡ word) × (then.pages number ≡ tree_state.pages number)
 
 module _ (plan : Plan) (s : State ℕ View) (tree_state then : TreeState) (h : IsTableAt plan s tree_state) (id : ℕ) (some_pass : 1 ≤ id) (words : List ℕ) (new : Owners) (log : List Change)
     (leaves : LeavesOthers plan s tree_state then h id words new log) where
@@ -58,9 +58,13 @@ module _ (plan : Plan) (s : State ℕ View) (tree_state then : TreeState) (h : I
       let t = leaves.rows row is.0.0 is.0.1 (λ e. let zero_is : 0 ≡ suc id = sym is.1 ∙ e in absurd (omega (arith, zero_is))) (λ common e. let zero_is : 0 ≡ suc 0 = sym is.1 ∙ e in absurd (omega (arith, zero_is))) in
       ((is.0, t.0 ∙ is.1), t.1)
 
+  pub word_names_still : (word : ℕ) (content : List ℕ) → Names plan h.owners s.words word content → Names plan new words word content
+  word_names_still word content is =
+      let t = still_published (row_in word) is.published in record { published = t.0; begins = row_begins_still plan s.words words (row_in word) content t.1 is.begins; none_behind = is.none_behind }
+
   pub page_word_still : (word : ℕ) (page : Option PlainPage) → PageWordIs plan h.owners s.words word page → PageWordIs plan new words word page
   page_word_still word None is = is
-  page_word_still word (Some page) is = let t = still_published word is.0 in (t.0, row_begins_still plan s.words words word (page_words page) t.1 is.1)
+  page_word_still word (Some page) is = word_names_still word (page_words page) is
 
   pub reads_still : (reads : Option (ℕ × List ℕ)) → ReadsRow plan h.owners s.words reads → ReadsRow plan new words reads
   reads_still None is = tt
@@ -69,7 +73,7 @@ module _ (plan : Plan) (s : State ℕ View) (tree_state then : TreeState) (h : I
   pub seat_reads_still : (v : View) → Reads plan h.owners s.words tree_state v → Reads plan new words then v
   seat_reads_still v is = (
     reads_still v.reads is.0,
-    looks_stay plan h.owners.row new.row s.words words tree_state.fan then.fan tree_state.prime then.prime tree_state.pages then.pages v.look (λ number row has in_range unowned. (still_published row (in_range, unowned)).0.1) leaves.in_chain leaves.named is.1,
+    looks_stay plan h.owners.row new.row s.words words tree_state.fan then.fan tree_state.prime then.prime tree_state.pages then.pages v.look (λ number word has in_range unowned. (still_published (row_in word) (in_range, unowned)).0.1) leaves.in_chain leaves.named is.1,
   )
 
   module _ (seat : ℕ) (other : seat ≢ id) where

@@ -5,6 +5,7 @@ use mathlib.Core.Option.{some}
 use lib.ListN.{get_elem?}
 use Rattle.atomic_table.specs.Table.{State}
 use Rattle.blink_page.specs.{PlainPage}
+use Rattle.blink_rows.specs.{page_words, prime_words, row_in}
 use Rattle.blink_machine.specs.TreeState.{TreeState}
 use Rattle.blink_live.specs.declared.view.Change.{Change}
 use Rattle.blink_live.specs.declared.view.Plan.{Plan}
@@ -19,6 +20,7 @@ use Rattle.blink_live.specs.Views.{IsCommon}
 use Rattle.blink_live.proofs.table.CallsOfSeats.{call_still}
 use Rattle.blink_live.proofs.table.LooksStay.{looks_stay}
 use Rattle.blink_live.proofs.table.SparesOfSeats.{spare_still}
+use Rattle.blink_live.proofs.table.RowsAreNamed.{names_still}
 
 -- what was published is
 abbrev pub StaysPublished : Owners → Owners → Type 0
@@ -35,7 +37,7 @@ pub record StillOwns (old new : Owners) (seat : ℕ) : Type 0 where
 module _ (plan : Plan) (old new : Owners) (words : List ℕ) (log : List Change) (published : StaysPublished old new) where
   page_still : (word : ℕ) (page : Option PlainPage) → PageWordIs plan old words word page → PageWordIs plan new words word page
   page_still word None is = is
-  page_still word (Some page) is = ((is.0.0, published word is.0.1), is.1)
+  page_still word (Some page) is = names_still plan old new words word (page_words page) (published (row_in word) is.published.1) is
 
   pub reads_still : (reads : Option (ℕ × List ℕ)) → ReadsRow plan old words reads → ReadsRow plan new words reads
   reads_still None is = is
@@ -44,8 +46,8 @@ module _ (plan : Plan) (old new : Owners) (words : List ℕ) (log : List Change)
   pub seat_reads_still : (tree_state : TreeState) (v : View) → Reads plan old words tree_state v → Reads plan new words tree_state v
   seat_reads_still tree_state v is = (
     reads_still v.reads is.0,
-    looks_stay plan old.row new.row words words tree_state.fan tree_state.fan tree_state.prime tree_state.prime tree_state.pages tree_state.pages v.look (λ number row has in_range. published row) (λ number in_chain. in_chain)
-        (λ number row least few unowned is. (is, refl)) is.1,
+    looks_stay plan old.row new.row words words tree_state.fan tree_state.fan tree_state.prime tree_state.prime tree_state.pages tree_state.pages v.look (λ number word has in_range. published (row_in word)) (λ number in_chain. in_chain)
+        (λ number word least few unowned is. (is, refl)) is.1,
   )
 
   -- a share whose keys have another owner
@@ -98,7 +100,7 @@ owners_change plan s tree_state h new views published same_latch knows longer no
   prime_numbers = h.prime_numbers;
   bounded = h.bounded;
   width = h.width;
-  prime = ((h.prime.0.0, published (slice_index s.words 0) h.prime.0.1), h.prime.1);
+  prime = names_still plan h.owners new s.words (slice_index s.words 0) (prime_words tree_state.prime) (published (row_in (slice_index s.words 0)) h.prime.published.1) h.prime;
   pages = λ number low high. page_still plan h.owners new s.words h.log published (slice_index s.words number) (tree_state.pages number) (h.pages number low high);
   no_other_page = h.no_other_page;
   no_other_latch = h.no_other_latch;

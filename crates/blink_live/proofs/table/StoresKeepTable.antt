@@ -17,11 +17,10 @@ use Rattle.blink_live.specs.declared.view.View.{View}
 use Rattle.blink_live.specs.Changes.{after}
 use Rattle.blink_live.specs.Accounts.{AreAccounts}
 use Rattle.blink_live.specs.Reuse.{IsReuseSafe}
-use Rattle.blink_live.specs.Rule.{Owners, IsPublished, PageWordIs, latch_word, HasForCall, Knows, IsTableAt, IsTable}
+use Rattle.blink_live.specs.Rule.{Owners, Names, PageWordIs, latch_word, HasForCall, Knows, IsTableAt, IsTable}
 use Rattle.blink_live.specs.Views.{IsCommon}
-use Rattle.blink_live.specs.Words.{RowBegins}
 use Rattle.blink_page.specs.{IsPageNumber}
-use Rattle.blink_live.proofs.table.OthersKnowTheSame.{RowStays, row_begins_still, LeavesOthers, still_published, other_knows}
+use Rattle.blink_live.proofs.table.OthersKnowTheSame.{RowStays, row_begins_still, LeavesOthers, word_names_still, other_knows}
 use Rattle.blink_live.proofs.table.SeatsThatStay.{at_inside, views_stay, counted_stays}
 
 -- page words and latch words stand before the rows
@@ -45,7 +44,7 @@ pub record IsStored (plan : Plan) (s : State ℕ View) (tree_state then : TreeSt
   pub same_fan : then.fan ≡ tree_state.fan
   pub invariant : Invariant then
   pub prime_numbers : All IsPageNumber then.prime
-  pub prime : IsPublished plan new (slice_index words 0) × RowBegins plan.counts words (slice_index words 0) (prime_words then.prime)
+  pub prime : Names plan new words (slice_index words 0) (prime_words then.prime)
   pub pages : (number : ℕ) → 1 ≤ number → number < plan.counts.numbers → PageWordIs plan new words (slice_index words number) (then.pages number)
   pub no_other_page : (number : ℕ) → plan.counts.numbers ≤ number → then.pages number ≡ None
   pub no_other_latch : (number : ℕ) → plan.counts.numbers ≤ number → then.holder number ≡ None
@@ -56,12 +55,10 @@ pub record IsStored (plan : Plan) (s : State ℕ View) (tree_state then : TreeSt
 
 -- a prime block that no step of the seat changes
 pub prime_still : (plan : Plan) (s : State ℕ View) (tree_state then : TreeState) (h : IsTableAt plan s tree_state) (id : ℕ) → 1 ≤ id → (words : List ℕ) (new : Owners) (log : List Change) → LeavesOthers plan s tree_state then h id words new log
-    → slice_index words 0 ≡ slice_index s.words 0 → then.prime ≡ tree_state.prime → IsPublished plan new (slice_index words 0) × RowBegins plan.counts words (slice_index words 0) (prime_words then.prime)
+    → slice_index words 0 ≡ slice_index s.words 0 → then.prime ≡ tree_state.prime → Names plan new words (slice_index words 0) (prime_words then.prime)
 prime_still plan s tree_state then h id some_pass words new log leaves same_word same_prime =
-    let published = still_published plan s tree_state then h id some_pass words new log leaves (slice_index s.words 0) h.prime.0 in
-    let content : List ℕ = prime_words tree_state.prime in
-    subst (λ (t : ℕ × List ℕ). IsPublished plan new t.0 × RowBegins plan.counts words t.0 (prime_words t.1)) (λ i. (sym same_word i, sym same_prime i))
-    (published.0, row_begins_still plan s.words words (slice_index s.words 0) content published.1 h.prime.1)
+    subst (λ (t : ℕ × List ℕ). Names plan new words t.0 (prime_words t.1)) (λ i. (sym same_word i, sym same_prime i))
+    (word_names_still plan s tree_state then h id some_pass words new log leaves (slice_index s.words 0) (prime_words tree_state.prime) h.prime)
 
 module _ (plan : Plan) (s : State ℕ View) (tree_state then : TreeState) (h : IsTableAt plan s tree_state) (id place x : ℕ) (some_pass : 1 ≤ id) (v w : View) (at : get_elem? s.views id ≡ some v) (new : Owners) (log : List Change) (now : List Entry) where
   pub store_keeps : LeavesOthers plan s tree_state then h id (set s.words place x) new log → IsStored plan s tree_state then h (set s.words place x) new log now → w.role ≡ v.role → w.plan ≡ v.plan → (IsCommon plan → AreAccounts plan new.place log (set s.views id w))

@@ -24,6 +24,6 @@ of_words-requires c =
     let laid : IsLaid counts store front.0 = subst (λ (s : PlainStore). IsLaid counts s front.0) (c.store-store.ensures.store ∙ tree) front.1 in
     let at_rest : IsStoreAtRest store = subst IsStoreAtRest tree c.store-store.ensures.at_rest in
     let lawful : IsLawfulStore store = subst IsLawfulStore tree c.store-store.ensures.lawful in
-    let opened = opens store counts places words numbers rows (laid_common counts places store front.0 words (omega (arith, c.requires.places, c.from-places.ensures)) laid (subst (λ (s : PlainStore). words ≡ set (set (front.0 ++ replicate (8 * places) 0) (pool_row counts) (length s.pages + 2)) (pool_page counts) (length s.pages + 1)) (c.store-store.ensures.store ∙ tree) front.2) numbers rows) at_rest lawful c.rest.ensures.map bounded in
+    let opened = opens store counts places words numbers rows bounded (laid_common counts places store front.0 words (omega (arith, c.requires.places, c.from-places.ensures)) laid (subst (λ (s : PlainStore). words ≡ set (set (front.0 ++ replicate (8 * places) 0) (pool_row counts) (length s.pages + 2)) (pool_page counts) (length s.pages + 1)) (c.store-store.ensures.store ∙ tree) front.2) numbers rows) at_rest lawful c.rest.ensures.map in
     let T : PlainStore → List ℕ → Type 0 = λ s ws. IsTable (plan_over s counts places) (opening ws [] (first_view (length s.pages) (plan_over s counts places))) in
     subst (λ (s : PlainStore). T s c.deref.result.now) (sym c.of.ensures) (subst (T store) (sym c.deref.ensures.value) opened)

@@ -31,7 +31,7 @@ of_words-requires c =
     let laid : IsLaid counts store words = subst (λ (s : PlainStore). IsLaid counts s words) (c.store-store.ensures.store ∙ tree) c.in-Ok.ensures in
     let at_rest : IsStoreAtRest store = subst IsStoreAtRest tree c.store-store.ensures.at_rest in
     let lawful : IsLawfulStore store = subst IsLawfulStore tree c.store-store.ensures.lawful in
-    let opened = opens store counts 0 words numbers rows (laid_alone counts store words numbers rows laid) at_rest lawful c.rest.ensures.map bounded in
+    let opened = opens store counts 0 words numbers rows bounded (laid_alone counts store words numbers rows laid) at_rest lawful c.rest.ensures.map in
     let T : PlainStore → List ℕ → Type 0 = λ s ws. IsTable (plan_over s counts 0) (opening ws [] (first_view (length s.pages) (plan_over s counts 0))) in
     subst (λ (s : PlainStore). T s c.deref.result.now) (sym c.of.ensures) (subst (T store) (sym c.deref.ensures.value) opened)
 

@@ -3,14 +3,14 @@ use mathlib.Core.Option.{none}
 use Rattle.atomic_table.specs.Table.{step, Allows}
 use Rattle.blink_rows.specs.{PlainCounts}
 use Rattle.blink_live.specs.declared.view.Plan.{Plan}
-use Rattle.blink_live.specs.AtomicSteps.{publishes_prime}
+use Rattle.blink_live.specs.AtomicSteps.{PublishesPrime, publishes_prime}
 use Rattle.blink_live.specs.Rule.{IsTable}
 use Rattle.blink_live.specs.Views.{SeatState, plan_of}
 use Rattle.blink_live.proofs.changed.PublishesKeepTable.{prime_is_published}
 use Rattle.blink_live.proofs.live.Live.publish_prime.Goals as goal
 
-pub swap-out-requires : goal.swap-out-requires
-swap-out-requires c =
+pub swap-before-requires : goal.swap-before-requires
+swap-before-requires c =
     let plan : Plan = plan_of c.args.self.now.table.shared.key in
     let slots : ℕ = c.args.self.now.table.shared.table_id.slots in
     let me : SeatState = c.args.seat.now.me in
@@ -23,3 +23,6 @@ swap-out-requires c =
           (subst (λ (counts : PlainCounts). 1 ≤ counts.numbers) c.args.self.now.counts_are some_number)
           (subst (λ (x : ℕ). x < me.0.call.rows.stop) row.0 row.1) c.requires.staged.2 c.requires.may),
     )
+
+pub returns-clause-published : goal.returns-clause-published
+returns-clause-published c = subst (λ (out : ℕ). PublishesPrime out c.args.machine.now c.args.seat.now.me c.swap-before.new.seat.me) (sym c.row_in.ensures.row) (c.swap-before.ensures.2 c.args.machine.now c.requires.at c.requires.needs)
