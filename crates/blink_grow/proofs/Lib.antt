@@ -1,0 +1,14 @@
+pub mod Basics
+pub mod OutSlots
+pub mod SlotIsTaken
+pub mod SlotIsGiven
+pub mod MapSwitches
+pub mod SeatsChange
+pub mod SlotsOpen
+pub mod CallsOfSessions
+pub mod Opens
+pub mod Gathers
+pub mod NextMap
+pub mod Tries
+pub mod SeatsCompare
+pub mod Closes

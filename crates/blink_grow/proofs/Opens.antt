@@ -1,0 +1,133 @@
+-- Sessions are laid into slots, and dealt.
+use Rattle.std.proofs.Common.{◌≡◌, ℕ, zero, suc, ◌+◌, ◌-◌, ◌<◌, Option, Some, None, List, [], ◌∷◌, ◌++◌, length, drop, get_or, length-append, refl, sym, ap, ◌∙◌, subst, ⊎_elim, arith}
+use Rattle.std.specs.Prelude.{slice_index_or, All}
+use mathlib.Core.Option.{some, some-injective, some-ne-none}
+use mathlib.Core.Logic.{dite}
+use native.Mathlib.Decide.{ℕ_discrete}
+use lib.ListN.{get_elem?}
+use Rattle.std.specs.Arc.{arc_value}
+use Rattle.atomic_table.proofs.Lists.{at_last, at_longer}
+use Rattle.blink_batch.specs.declared.Entry.{Entry}
+use Rattle.blink_map.specs.declared.map.Map.{Map}
+use Rattle.blink_map.specs.declared.map.Session.{Session as MapSession}
+use Rattle.blink_map.specs.{AreFirstSessions as AreFirstInMap}
+use Rattle.blink_grow.specs.declared.growing.GrowingMap.{GrowingMap}
+use Rattle.blink_grow.specs.declared.growing.Session.{Session}
+use Rattle.blink_grow.specs.declared.slots.Current.{Current}
+use Rattle.blink_grow.specs.declared.slots.SlotView.{SlotView}
+use Rattle.blink_grow.specs.Laid.{AreFirst, AreLaid, AreOthersIn, IsFirst, IsFirstIn}
+use Rattle.blink_grow.specs.Opening.{AreDealt, IsFirstAt, dealer}
+use Rattle.blink_grow.specs.Own.{IsIdle, KnowsAuthors, own_of}
+use Rattle.blink_grow.specs.Sessions.{IsSessionOf, opening_of, places_of}
+use Rattle.blink_grow.specs.Rule.{SlotSeat, fresh_accounts, nothing}
+use Rattle.blink_grow.specs.Steps.{first_alone, without_first}
+use Rattle.blink_grow.proofs.Basics.{at_end, in_list, some_or}
+
+-- ---- sessions are laid
+
+-- the first sessions of the places from this one on
+abbrev pub AreFirstFrom : Map → ℕ → List MapSession → Type 0
+AreFirstFrom map from sessions = (k : ℕ) (session : MapSession) → get_elem? sessions k ≡ some session → IsFirst map (from + k) session
+
+at_place : {A : Type 0} (l : List A) (i : ℕ) (a d : A) → get_elem? l i ≡ some a → slice_index_or l i d ≡ a
+at_place [] i a d e = absurd (some-ne-none a (sym e))
+at_place (x ∷ xs) zero a d e = some-injective x a e
+at_place (x ∷ xs) (suc i) a d e = at_place xs i a d e
+
+pub first_dealt : (map : Map) (sessions : List MapSession) → AreFirstInMap map sessions → AreFirst map sessions
+first_dealt map sessions dealt place session is =
+    let inside = in_list sessions place session is in
+    let width = dealt.width in
+    let one = dealt.each place session (omega (arith, inside, width)) in
+    let same : slice_index_or sessions place session ≡ session = at_place sessions place session session is in
+    subst (IsFirst map place) same record { its_own = record { member = one.its_own }; its_place = one.its_place; none_seen = one.none_seen; none_made = one.none_made }
+
+behind_one : {A : Type 0} (l : List A) (k : ℕ) (a : A) → get_elem? (drop 1 l) k ≡ some a → get_elem? l (suc k) ≡ some a
+behind_one [] k a e = absurd (some-ne-none a (sym e))
+behind_one (x ∷ xs) k a e = e
+
+pub first_from_next : (map : Map) (from : ℕ) (old new : List MapSession) → new ≡ drop 1 old → AreFirstFrom map from old → AreFirstFrom map (from + 1) new
+first_from_next map from old new is are k session e =
+    let same : from + suc k ≡ from + 1 + k = omega arith in
+    subst (λ (n : ℕ). IsFirst map n session) same (are (suc k) session (behind_one old k session (ap (λ (l : List MapSession). get_elem? l k) (sym is) ∙ e)))
+
+-- the first of them
+pub first_of_them : (map : Map) (from : ℕ) (old : List MapSession) (session : MapSession) → 0 < length old → session ≡ slice_index_or old 0 session → AreFirstFrom map from old → IsFirst map from session
+first_of_them map from [] session there is are = absurd (omega (arith, there))
+first_of_them map from (x ∷ xs) session there is are =
+    let same : from + 0 ≡ from = omega arith in
+    subst (λ (n : ℕ). IsFirst map n session) same (are 0 session (ap some (sym is)))
+
+-- one more slot is laid
+pub laid_more : (map : Map) (slots : List (Option Current)) (held : Current) → AreLaid map slots → IsFirstIn map (length slots) held → AreLaid map (slots ++ Some held ∷ [])
+laid_more map slots held laid its slot inside = dite (ℕ_discrete slot (length slots))
+    (λ same. (held, at_last slots (Some held) slot (sym same), subst (λ (n : ℕ). IsFirstIn map n held) (sym same) its))
+    (λ other.
+    let long = length-append slots (Some held ∷ []) in
+    let one = laid slot (omega (arith, inside, long, other)) in
+    (one.0, at_longer slots (Some held ∷ []) slot (Some one.0) one.1, one.2))
+
+pub none_laid : (map : Map) → AreLaid map []
+none_laid map slot inside = absurd (omega (arith, inside))
+
+-- ---- sessions are dealt
+
+pub account_next : (slots dealt : ℕ) → dealt < slots → fresh_accounts dealt (slots - dealt) ≡ (dealt, nothing) ∷ fresh_accounts (suc dealt) (slots - suc dealt)
+account_next slots dealt inside = let count : slots - dealt ≡ suc (slots - suc dealt) = omega (arith, inside) in ap (fresh_accounts dealt) count
+
+pub dealt_next : (first : List Entry) (slots dealt : ℕ) → dealt < slots → without_first (dealer first slots dealt) ≡ dealer first slots (suc dealt)
+dealt_next first slots dealt inside = λ i. record (dealer first slots dealt) { accounts = Rattle.blink_grow.specs.Steps.behind_first (account_next slots dealt inside i) }
+
+-- a seat alone
+abbrev pub alone : List Entry → ℕ → ℕ → SlotView
+alone first slots slot = record { first = first; slots = slots; accounts = (slot, nothing) ∷ []; now = Rattle.std.specs.Prelude.None; taken = [] }
+
+pub dealt_alone : (first : List Entry) (slots dealt : ℕ) → dealt < slots → first_alone (dealer first slots dealt) ≡ alone first slots dealt
+dealt_alone first slots dealt inside = λ i. record (alone first slots dealt) { accounts = Rattle.blink_grow.specs.Steps.first_in (account_next slots dealt inside i) }
+
+pub alone_is_idle : (first : List Entry) (slots slot : ℕ) (me : SlotSeat) → me ≡ (alone first slots slot, []) → IsIdle slot me
+alone_is_idle first slots slot me is = subst (IsIdle slot) (sym is) record { alone = refl; none_now = refl; none_taken = refl; none_out = refl }
+
+pub alone_knows : (first : List Entry) (slots slot : ℕ) (v : SlotView) → v ≡ alone first slots slot → KnowsAuthors slot v
+alone_knows first slots slot v is = subst (KnowsAuthors slot) (sym is) record { own = refl; all = λ k d inside. absurd (omega (arith, inside)) }
+
+pub dealt_more : (map : GrowingMap) (sessions : List Session) (session : Session) → AreDealt map sessions → IsFirstAt map (length sessions) session → AreDealt map (sessions ++ session ∷ [])
+dealt_more map sessions session dealt its place one is = ⊎_elim
+    (λ (old : get_elem? sessions place ≡ some one). dealt place one old)
+    (λ (new : (place ≡ length sessions) × (session ≡ one)). subst (λ (n : ℕ). IsFirstAt map n one) (sym new.0) (subst (IsFirstAt map (length sessions)) new.1 its))
+    (at_end sessions session one place is)
+
+pub none_dealt : (map : GrowingMap) → AreDealt map []
+none_dealt map place one is = absurd (some-ne-none one (sym is))
+
+pub dealt_then : (map : GrowingMap) (items new : List Session) (session : Session) → new ≡ items ++ session ∷ [] → AreDealt map items → session.seat.table_id ≡ map.table.shared.table_id → session.seat.me ≡ (alone (opening_of map) (places_of map) session.slot, [])
+    → session.slot ≡ length items → AreDealt map new
+dealt_then map items new session is dealt table me slot =
+    subst (AreDealt map) (sym is) (dealt_more map items session dealt record {
+      its_own = record { same_table = table; same_first = ap (λ (m : SlotSeat). m.0.first) me };
+      its_place = slot;
+      none_seen = ap (λ (m : SlotSeat). (own_of m.0).seen) me;
+      none_made = ap (λ (m : SlotSeat). (own_of m.0).made) me;
+    })
+
+pub one_longer : (items new : List Session) (session : Session) (n : ℕ) → new ≡ items ++ session ∷ [] → length items ≡ n → length new ≡ n + 1
+one_longer items new session n is width =
+    let longer = ap (λ (l : List Session). length l) is in
+    let long = length-append items (session ∷ []) in
+    omega (arith, longer, long, width)
+
+-- ---- sessions behind the first are held
+
+pub one_more_held : (map : Map) (others : List Current) (held : Current) → AreOthersIn map others → IsFirstIn map (suc (length others)) held → AreOthersIn map (others ++ held ∷ [])
+one_more_held map others held those its k other is = ⊎_elim
+    (λ (old : get_elem? others k ≡ some other). those k other old)
+    (λ (new : (k ≡ length others) × (held ≡ other)). subst (λ (n : ℕ). IsFirstIn map (suc n) other) (sym new.0) (subst (IsFirstIn map (suc (length others))) new.1 its))
+    (at_end others held other k is)
+
+pub none_held : (map : Map) → AreOthersIn map []
+none_held map k held is = absurd (some-ne-none held (sym is))
+
+-- ---- the sessions that are dealt are the map's
+
+pub all_its_own : (map : GrowingMap) (sessions : List Session) → AreDealt map sessions → All (IsSessionOf map) sessions
+all_its_own map sessions dealt k d inside = (dealt k (get_or sessions k d) (some_or sessions k d inside)).its_own

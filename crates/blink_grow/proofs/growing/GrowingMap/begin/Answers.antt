@@ -1,0 +1,11 @@
+use Rattle.std.proofs.Common.{sym, subst}
+use Rattle.blink_grow.specs.Renewing.{IsRenewing}
+use Rattle.blink_grow.proofs.Gathers.{begun}
+use Rattle.blink_grow.proofs.growing.GrowingMap.begin.Goals as goal
+
+pub returns-clause-renewing : goal.returns-clause-renewing
+returns-clause-renewing c =
+    let map = c.args.self.now in
+    let seat = c.enter-seat.ensures in
+    subst (IsRenewing map c.take_within.new.seat c.in-Some.lead) (sym c.in-Ok.ensures.items)
+    (begun map c.enter-seat.result c.take_within.new.seat c.in-Some.lead seat.its_own c.in-Some.ensures.same seat.first seat.slots seat.no_account seat.none_taken.0 seat.none_out map.some_slot c.in-Some.ensures.taken)

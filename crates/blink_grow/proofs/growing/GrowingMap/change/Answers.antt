@@ -1,0 +1,11 @@
+use Rattle.blink_grow.proofs.Tries.{still_of, tried_again, untried}
+use Rattle.blink_grow.proofs.growing.GrowingMap.change.Goals as goal
+
+pub try_change-requires-clause-its_own : goal.try_change-requires-clause-its_own
+try_change-requires-clause-its_own g c = still_of c.args.self.now c.args.session.now c.loop.session c.requires.its_own c.loop.invariant.same
+
+pub loop-init : goal.loop-init
+loop-init g c = record { same = untried c.args.session.now }
+
+pub loop-preserved : goal.loop-preserved
+loop-preserved g c = record { same = tried_again c.args.session.now c.loop.session c.try_change.new.session c.loop.invariant.same c.in-Err.ensures.unchanged }

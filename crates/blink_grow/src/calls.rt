@@ -1,0 +1,181 @@
+//! How seats take slots and give them back.
+ghost use Rattle.std.specs.Prelude.{◌≡◌, ◌<◌, List, [], Some, None, IfSome, IfNone};
+ghost use Rattle.std.specs.Arc.{arc_value};
+ghost use Rattle.atomic_table.specs.Table.{rest};
+ghost use Rattle.blink_live.specs.declared.view.Change.{Change};
+ghost use Rattle.blink_grow.specs.Rule.{generation_of, known_of};
+ghost use Rattle.blink_grow.specs.Sessions.{opening_of, places_of};
+ghost use Rattle.blink_grow.specs.Steps.{AreAllTaken, CanGive, Follows, Switched, Taken, has_given, past_of};
+
+use crate::growing::GrowingMap;
+use crate::slots::{Current, Enter, Give, SlotView, Switch, Take};
+use atomic_table::Seat;
+use std::sync::Wait;
+use std::sync::atomic::Ordering;
+use std::thread;
+
+// The word of a slot in which a session lies, and of one that is taken.
+const FREE: u64 = 0;
+
+const TAKEN: u64 = 1;
+
+impl GrowingMap {
+    // A seat that has no session.
+    pub(crate) fn enter(&self) -> Seat<Option<Current>, SlotView>
+        ensures its_own { result.table_id ≡ self.now.table.shared.table_id }
+        ensures first { result.me.0.first ≡ opening_of self.now }
+        ensures slots { result.me.0.slots ≡ places_of self.now }
+        ensures none_taken { (result.me.0.taken ≡ []) × (result.me.0.now ≡ None) }
+        ensures no_account { result.me.0.accounts ≡ [] }
+        ensures none_out { result.me.1 ≡ [] }
+    {
+        let (_, seat) = self.table.shared.load_new_seat::<Enter>(0);
+        seat
+    }
+
+    // Takes the session out of a slot, if it lies there.
+    pub(crate) fn try_take(
+        &self,
+        seat: &mut Seat<Option<Current>, SlotView>,
+        slot: usize,
+    ) -> Option<Current>
+        requires its_own { seat.old.table_id ≡ self.now.table.shared.table_id }
+        requires in_range { slot < seat.old.table_id.slots }
+        requires some_slot { 0 < seat.old.me.0.slots }
+        ensures same { seat.new.table_id ≡ seat.old.table_id }
+        ensures taken { IfSome result (λ held. Taken slot held None seat.old.me seat.new.me) }
+        ensures lost { IfNone result (seat.new.me ≡ seat.old.me) }
+    {
+        if self
+            .table
+            .shared
+            .compare_exchange::<Take>(seat, slot, FREE, TAKEN)
+            != FREE
+        {
+            return None;
+        }
+        match self.table.shared.exchange(seat, slot, None) {
+            Some(held) => Some(held),
+            None => unreachable!(),
+        }
+    }
+
+    // Takes the session out of a slot, and waits for it. It lets a renewal go first, which wants the session too.
+    pub(crate) fn take<R: Wait>(
+        &self,
+        rt: &R,
+        seat: &mut Seat<Option<Current>, SlotView>,
+        slot: usize,
+    ) -> Current
+        requires its_own { seat.old.table_id ≡ self.now.table.shared.table_id }
+        requires in_range { slot < seat.old.table_id.slots }
+        requires some_slot { 0 < seat.old.me.0.slots }
+        ensures same { seat.new.table_id ≡ seat.old.table_id }
+        ensures taken { Taken slot result None seat.old.me seat.new.me }
+    {
+        self.wait_for_renewal(rt);
+        self.take_at_once(rt, seat, slot)
+    }
+
+    // Waits while somebody renews the map.
+    pub(crate) fn wait_for_renewal<R: Wait>(&self, rt: &R) {
+        for _ in rt.forever() {
+            if !self.renewing.load(Ordering::SeqCst) {
+                return;
+            }
+            thread::yield_now();
+        }
+    }
+
+    // Takes the session out of a slot, and waits for it.
+    pub(crate) fn take_at_once<R: Wait>(
+        &self,
+        rt: &R,
+        seat: &mut Seat<Option<Current>, SlotView>,
+        slot: usize,
+    ) -> Current
+        requires its_own { seat.old.table_id ≡ self.now.table.shared.table_id }
+        requires in_range { slot < seat.old.table_id.slots }
+        requires some_slot { 0 < seat.old.me.0.slots }
+        ensures same { seat.new.table_id ≡ seat.old.table_id }
+        ensures taken { Taken slot result None seat.old.me seat.new.me }
+    {
+        for _ in rt.forever() {
+            if let Some(held) = self.try_take(seat, slot) {
+                return held;
+            }
+            thread::yield_now();
+        }
+        unreachable!()
+    }
+
+    // Takes the session out of a slot; `None`, if it wasn't there so often.
+    pub(crate) fn take_within(
+        &self,
+        seat: &mut Seat<Option<Current>, SlotView>,
+        slot: usize,
+        tries: u32,
+    ) -> Option<Current>
+        requires its_own { seat.old.table_id ≡ self.now.table.shared.table_id }
+        requires in_range { slot < seat.old.table_id.slots }
+        requires some_slot { 0 < seat.old.me.0.slots }
+        ensures same { seat.new.table_id ≡ seat.old.table_id }
+        ensures taken { IfSome result (λ held. Taken slot held None seat.old.me seat.new.me) }
+        ensures lost { IfNone result (seat.new.me ≡ seat.old.me) }
+    {
+        for _ in 0..tries {
+            if let Some(held) = self.try_take(seat, slot) {
+                return Some(held);
+            }
+            thread::yield_now();
+        }
+        None
+    }
+
+    // Lays a session into the slot that the seat took last, and gives the slot back.
+    pub(crate) fn give(
+        &self,
+        seat: &mut Seat<Option<Current>, SlotView>,
+        slot: usize,
+        held: Current,
+    )
+        requires its_own { seat.old.table_id ≡ self.now.table.shared.table_id }
+        requires in_range { slot < seat.old.table_id.slots }
+        requires can { CanGive slot seat.old.me held }
+        ensures same { seat.new.table_id ≡ seat.old.table_id }
+        ensures given { seat.new.me ≡ (
+          has_given seat.old.me.0 slot (known_of (past_of seat.old.me.0.now) slot held),
+          rest seat.old.me.1,
+        ) }
+    {
+        match self.table.shared.exchange(seat, slot, Some(held)) {
+            Some(_) => unreachable!(),
+            None => {}
+        }
+        self.table.shared.store::<Give>(seat, slot, FREE);
+    }
+
+    // Another map becomes the current one, of which this is a session.
+    pub(crate) fn switch(
+        &self,
+        seat: &mut Seat<Option<Current>, SlotView>,
+        held: Current,
+    ) -> Current
+        requires its_own { seat.old.table_id ≡ self.now.table.shared.table_id }
+        requires some_slot { 0 < seat.old.me.0.slots }
+        requires all { AreAllTaken (places_of self.now) seat.old.me.0.taken }
+        requires follows { (past : List Change) × Follows seat.old.me.0 (generation_of (arc_value held.map) past) }
+        ensures same { seat.new.table_id ≡ seat.old.table_id }
+        ensures held { result ≡ held }
+        ensures switched { Switched (arc_value held.map) seat.old.me seat.new.me }
+    {
+        let said = Some(held);
+        self.table
+            .shared
+            .compare_exchange_with::<Switch>(seat, 0, TAKEN, TAKEN, &said);
+        match said {
+            Some(held) => held,
+            None => unreachable!(),
+        }
+    }
+}

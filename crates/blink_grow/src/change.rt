@@ -1,0 +1,71 @@
+//! The operations that change a growing map.
+ghost use Rattle.std.specs.Prelude.{IfErr, IfOk, OnErr};
+ghost use Rattle.blink_batch.specs.{FitsWords};
+ghost use Rattle.blink_machine.specs.{IsUpdate};
+ghost use Rattle.blink_grow.specs.Renewing.{IsRefusal};
+ghost use Rattle.blink_grow.specs.Sessions.{IsAnswered, IsSameBesideSeen, IsSessionOf};
+
+use crate::error::GrowError;
+use crate::growing::{GrowingMap, Session};
+use blink_batch::{Answer, Op};
+use std::alloc::Global;
+use std::sync::Wait;
+
+// How often a change renews the map. Once is enough, unless other sessions use up all the new room before the change is made.
+const RENEWALS: u32 = 8;
+
+impl GrowingMap {
+    /// Runs an operation that changes the map: an insertion, a deletion, a replacement, an exchange, or a deletion of an expected
+    /// pointer. It answers as the operation does on a plain map (`Op`, `Answer`), and no other session changes the key between its test
+    /// and its change. Where the session finds no room for it in the current map, the call renews the map, and takes memory then. It
+    /// waits as a change of a map of `blink_map` does, and while the map is renewed.
+    ///
+    /// The call refuses with `OutOfMemory`, if memory was refused when the map was to be renewed; with `TooLarge`, if the entries leave
+    /// too few of the 1,048,575 page numbers; and with `Busy`, if the map can't be renewed for now, since a session is held up in the
+    /// midst of a call, or if other sessions used up the room of eight maps meanwhile. Then it changes nothing, though the session may
+    /// have seen more, and may be called again.
+    pub fn change<R: Wait>(
+        &self,
+        rt: &R,
+        alloc: Global,
+        session: &mut Session,
+        op: Op,
+    ) -> Result<Answer, GrowError>
+        requires its_own { IsSessionOf self.now session.old }
+        requires updates { IsUpdate op }
+        requires fits { FitsWords op }
+        ensures answered { IfOk result (IsAnswered self.now op session.old session.new) }
+        ensures refused { IfErr result IsRefusal }
+        ensures unchanged { OnErr result (IsSameBesideSeen session.old session.new) }
+    {
+        for _ in 0..RENEWALS {
+            match self.try_change(rt, session, op) {
+                Ok(answer) => return Ok(answer),
+                Err(number) => match self.renew_once(rt, alloc, Some(number)) {
+                    Ok(()) => {}
+                    Err(refusal) => return Err(refusal),
+                },
+            }
+        }
+        Err(GrowError::Busy)
+    }
+
+    // Runs an operation in the current map. `Err`, with the map's number, if the session lacks room for it there.
+    fn try_change<R: Wait>(&self, rt: &R, session: &mut Session, op: Op) -> Result<Answer, u64>
+        requires its_own { IsSessionOf self.now session.old }
+        requires updates { IsUpdate op }
+        requires fits { FitsWords op }
+        ensures answered { IfOk result (IsAnswered self.now op session.old session.new) }
+        ensures unchanged { OnErr result (IsSameBesideSeen session.old session.new) }
+    {
+        let Session { seat, slot } = session;
+        let mut held = self.take(rt, seat, *slot);
+        let outcome = held.map.change(rt, &mut held.session, op);
+        let number = held.number;
+        self.give(seat, *slot, held);
+        match outcome {
+            Ok(answer) => Ok(answer),
+            Err(_) => Err(number),
+        }
+    }
+}

@@ -1,0 +1,46 @@
+//! The types of a growing map: `GrowingMap`, and a `Session`, with which a thread reads and changes any key.
+ghost use Rattle.std.specs.Prelude.{◌≡◌, ◌<◌, ◌≤◌};
+ghost use Rattle.blink_page.specs.{IsFan};
+ghost use Rattle.blink_grow.specs.Own.{IsIdle, KnowsAuthors};
+
+use crate::error::GrowError;
+use crate::slots::{Current, Origin, RuleOfSlots, SlotView};
+use atomic_table::{Seat, Table};
+use std::alloc::Global;
+use std::sync::atomic::AtomicBool;
+
+/// A map from `u64` to `u64` which grows. It is one map of `blink_map` after another: where the current one is full, its entries are
+/// packed, and another map is opened over them with more room. All calls wait meanwhile.
+#[derive(Drop)]
+pub struct GrowingMap {
+    pub(crate) table: Table<Option<Current>, SlotView, Origin, RuleOfSlots, Global>,
+    pub(crate) fan: u8,
+    // Whether somebody renews the map. Renewals are one after another by it, and a renewal gets the sessions before the next calls do.
+    // No proof needs it.
+    pub(crate) renewing: AtomicBool,
+    ghost words: { table.shared.table_id.words ≡ table.shared.table_id.slots },
+    ghost some_slot: { 0 < table.shared.table_id.slots },
+    ghost few_slots: { table.shared.table_id.slots ≤ 256 },
+    ghost all_slots: { table.shared.key.slots ≡ table.shared.table_id.slots },
+    ghost fan_is: { IsFan fan },
+}
+
+/// The right of one thread to read and change a map. There is one session for each of the map's places, and nobody else makes changes at
+/// its place.
+#[derive(Drop)]
+pub struct Session {
+    pub(crate) seat: Seat<Option<Current>, SlotView>,
+    pub(crate) slot: usize,
+    ghost idle: { IsIdle slot seat.me },
+    ghost in_range: { slot < seat.table_id.slots },
+    ghost all_slots: { seat.me.0.slots ≡ seat.table_id.slots },
+    ghost authors: { KnowsAuthors slot seat.me.0 },
+}
+
+/// A growing map that wasn't closed, with the sessions that were given.
+#[derive(Drop)]
+pub struct Unclosed {
+    pub map: GrowingMap,
+    pub sessions: Vec<Session>,
+    pub refusal: GrowError,
+}

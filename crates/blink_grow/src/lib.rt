@@ -1,0 +1,24 @@
+//! A map that grows: any thread changes it at any key, and it has no room to be told. It is one map of `blink_map` after another: where
+//! the current one is full, the sessions are gathered, the entries copied into the next map with more room, and sessions of it put in
+//! their places. The contracts speak of one list of changes, which is that of all these maps, one behind the other.
+#![tactic(auto)]
+
+mod calls;
+mod change;
+mod close;
+mod copy;
+mod error;
+mod find;
+mod gather;
+mod growing;
+mod next;
+mod open;
+mod renew;
+mod room;
+mod scan;
+mod slots;
+mod snapshot;
+
+pub use blink_live::Scanned;
+pub use error::GrowError;
+pub use growing::{GrowingMap, Session, Unclosed};

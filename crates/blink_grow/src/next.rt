@@ -1,0 +1,114 @@
+//! The next map: the entries of the current one in an index, and a map over it with more room.
+ghost use Rattle.std.specs.Prelude.{◌≡◌, ◌≤◌, suc, IfErr, IfOk, length};
+ghost use Rattle.std.specs.Arc.{arc_value};
+ghost use Rattle.blink_index.specs.{map_of};
+ghost use Rattle.blink_page.specs.{IsFan};
+ghost use Rattle.blink_map.specs.{IsSessionOf};
+ghost use Rattle.blink_grow.specs.Laid.{AreFirst, AreOthersIn, IsFirstIn};
+ghost use Rattle.blink_grow.specs.Renewing.{AreEntriesSeen, AreNext, IsRefusal, MaySeeMore};
+
+use crate::error::GrowError;
+use crate::room::room_over;
+use crate::slots::Current;
+use blink_index::{Index, SortedError};
+use blink_map::{Map, MapError, Session};
+use std::alloc::{AllocError, Global};
+use std::sync::Arc;
+
+// How often a snapshot of all keys is tried. Nobody changes the map meanwhile.
+const TRIES: u32 = 1;
+
+// An index of all entries of the session's map, in as few pages as they need. All that anybody has changed there the session has to have
+// seen, and nobody changes the map meanwhile.
+pub(crate) fn index_of(alloc: Global, fan: u8, lead: &mut Current) -> Result<Index, GrowError>
+    requires its_own { IsSessionOf (arc_value lead.old.map) lead.old.session }
+    requires fan { IsFan fan }
+    ensures more { MaySeeMore lead.old lead.new }
+    ensures entries { IfOk result (λ index. AreEntriesSeen lead.new (map_of index)) }
+    ensures fan { IfOk result (λ index. index.fan ≡ fan) }
+    ensures refused { IfErr result IsRefusal }
+{
+    let Current {
+        map,
+        session,
+        number: _,
+    } = lead;
+    let Ok(found) = map.snapshot(alloc, session, 0, u64::MAX, TRIES) else {
+        return Err(GrowError::OutOfMemory);
+    };
+    let Some(entries) = found else {
+        return Err(GrowError::Busy);
+    };
+    match Index::from_sorted(alloc, fan, &entries) {
+        Ok(index) => Ok(index),
+        Err(SortedError::TooLarge) => Err(GrowError::TooLarge),
+        Err(_) => Err(GrowError::OutOfMemory),
+    }
+}
+
+// Opens a map over the index with so many sessions, and returns these with owners of the map: the first, and the others.
+pub(crate) fn open_next(
+    alloc: Global,
+    index: &Index,
+    slots: u32,
+    number: u64,
+) -> Result<(Current, Vec<Current>), GrowError>
+    requires slots { slots ≤ 256 }
+    ensures next { IfOk result
+        (λ next. AreNext (map_of index.now) slots next.0 next.1.items) }
+    ensures refused { IfErr result IsRefusal }
+{
+    let Some(room) = room_over(index.page_count(), slots) else {
+        return Err(GrowError::TooLarge);
+    };
+    let (map, sessions) = match Map::open(alloc, index, room) {
+        Ok(opened) => opened,
+        Err(MapError::TooLarge) => return Err(GrowError::TooLarge),
+        Err(_) => return Err(GrowError::OutOfMemory),
+    };
+    let Ok(map) = Arc::new(alloc, map) else {
+        return Err(GrowError::OutOfMemory);
+    };
+    match hold(alloc, &map, sessions, number) {
+        Ok(held) => Ok(held),
+        Err(_) => Err(GrowError::OutOfMemory),
+    }
+}
+
+// The sessions of a map, each with an owner of it: the first, and the others.
+fn hold(
+    alloc: Global,
+    map: &Arc<Map>,
+    mut sessions: Vec<Session>,
+    number: u64,
+) -> Result<(Current, Vec<Current>), AllocError>
+    requires first { AreFirst (arc_value map.now) sessions.items }
+    requires some { 1 ≤ length sessions.items }
+    ensures first { IfOk result (λ held. IsFirstIn (arc_value map.now) 0 held.0) }
+    ensures others { IfOk result (λ held. AreOthersIn (arc_value map.now) held.1.items) }
+    ensures width { IfOk result (λ held. suc (length held.1.items) ≡ length sessions.items) }
+{
+    let first = sessions.remove(0);
+    let lead = hold_one(map, first, number)?;
+    let count = sessions.len();
+    let mut others = Vec::with_capacity(alloc, count)?;
+    for _slot in 0..count {
+        let session = sessions.remove(0);
+        let held = hold_one(map, session, number)?;
+        others.push_reserved(held);
+    }
+    Ok((lead, others))
+}
+
+// A session of the map, with an owner of the map.
+fn hold_one(map: &Arc<Map>, session: Session, number: u64) -> Result<Current, AllocError>
+    ensures map { IfOk result (λ held. arc_value held.map ≡ arc_value map.now) }
+    ensures session { IfOk result (λ held. held.session ≡ session) }
+{
+    let owner = Arc::try_clone(map)?;
+    Ok(Current {
+        map: owner,
+        session,
+        number,
+    })
+}

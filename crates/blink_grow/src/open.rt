@@ -1,0 +1,187 @@
+//! Opening a growing map.
+ghost use Rattle.std.specs.Prelude.{◌≡◌, ◌≤◌, ◌++◌, [], ◌∷◌, Some, All, IfOk, OnOk, length, replicate};
+ghost use Rattle.std.specs.Arc.{arc_value};
+ghost use Rattle.blink_index.specs.{map_of};
+ghost use Rattle.blink_map.specs.{opening_of as opening_of_map, places_of as places_of_map};
+ghost use Rattle.blink_grow.specs.Laid.{AreFirst, AreLaid};
+ghost use Rattle.blink_grow.specs.Opening.{AreFirstSessions, dealer};
+ghost use Rattle.blink_grow.specs.Sessions.{IsSessionOf, opening_of, places_of};
+
+use crate::error::GrowError;
+use crate::growing::{GrowingMap, Session};
+use crate::room::room_over;
+use crate::slots::{Current, Origin, PartWithFirst, RuleOfSlots, SlotView};
+use atomic_table::{Seat, Table};
+use blink_index::Index;
+use blink_map::{Map, MapError};
+use blink_page::MAX_FAN;
+use std::alloc::{AllocError, Global};
+use std::snapshot::Snapshot;
+use std::sync::Arc;
+use std::sync::atomic::AtomicBool;
+
+// The greatest number of sessions.
+const MAX_SESSIONS: u32 = 256;
+
+impl GrowingMap {
+    /// Opens an empty map with so many sessions, in the order of their places. Nobody has seen a change of it, or made one.
+    ///
+    /// The call refuses with `Sessions`, if there are to be none or more than 256; and with `OutOfMemory`, if memory was refused.
+    pub fn new(alloc: Global, sessions: u32) -> Result<(GrowingMap, Vec<Session>), GrowError>
+        ensures opened { IfOk result (λ opened. opening_of opened.0 ≡ []) }
+        ensures places { IfOk result (λ opened. places_of opened.0 ≡ sessions) }
+        ensures dealt { IfOk result (λ opened. AreFirstSessions opened.0 opened.1.items) }
+        ensures its_own { IfOk result (λ opened. All (IsSessionOf opened.0) opened.1.items) }
+    {
+        match Index::new(alloc, MAX_FAN as u8) {
+            Ok(index) => GrowingMap::open(alloc, &index, sessions),
+            Err(_) => Err(GrowError::OutOfMemory),
+        }
+    }
+
+    /// Opens a map over the index's tree, with so many sessions, in the order of their places. The index stays as it is. Nobody has seen
+    /// a change of the new map, or made one.
+    ///
+    /// The call refuses with `Sessions`, if there are to be none or more than 256; with `TooLarge`, if the index leaves too few of the
+    /// 1,048,575 page numbers; and with `OutOfMemory`, if memory was refused.
+    pub fn open(
+        alloc: Global,
+        index: &Index,
+        sessions: u32,
+    ) -> Result<(GrowingMap, Vec<Session>), GrowError>
+        ensures opened { IfOk result (λ opened. opening_of opened.0 ≡ map_of index.now) }
+        ensures places { IfOk result (λ opened. places_of opened.0 ≡ sessions) }
+        ensures dealt { IfOk result (λ opened. AreFirstSessions opened.0 opened.1.items) }
+        ensures its_own { IfOk result (λ opened. All (IsSessionOf opened.0) opened.1.items) }
+    {
+        if sessions == 0 || sessions > MAX_SESSIONS {
+            return Err(GrowError::Sessions);
+        }
+        let Some(room) = room_over(index.page_count(), sessions) else {
+            return Err(GrowError::TooLarge);
+        };
+        let (map, first) = match Map::open(alloc, index, room) {
+            Ok(opened) => opened,
+            Err(MapError::TooLarge) => return Err(GrowError::TooLarge),
+            Err(_) => return Err(GrowError::OutOfMemory),
+        };
+        let Ok(map) = Arc::new(alloc, map) else {
+            return Err(GrowError::OutOfMemory);
+        };
+        let Ok(slots) = lay(alloc, &map, first) else {
+            return Err(GrowError::OutOfMemory);
+        };
+        let (map, mut seat) = table_of(alloc, index, slots)?;
+        let Ok(sessions) = map.deal(alloc, &mut seat) else {
+            return Err(GrowError::OutOfMemory);
+        };
+        Ok((map, sessions))
+    }
+
+    // Deals all sessions.
+    fn deal(
+        &self,
+        alloc: Global,
+        seat: &mut Seat<Option<Current>, SlotView>,
+    ) -> Result<Vec<Session>, AllocError>
+        requires its_own { seat.old.table_id ≡ self.now.table.shared.table_id }
+        requires first { seat.old.me ≡ (dealer (opening_of self.now) (places_of self.now) 0, []) }
+        ensures { IfOk result (λ sessions. AreFirstSessions self.now sessions.items) }
+    {
+        let mut sessions = Vec::new(alloc);
+        for slot in 0..self.table.slot_count() {
+            let own = self.table.shared.split_seat::<PartWithFirst>(seat);
+            push(&mut sessions, Session { seat: own, slot })?;
+        }
+        Ok(sessions)
+    }
+}
+
+// The table over these slots, and the seat that has all sessions.
+fn table_of(
+    alloc: Global,
+    index: &Index,
+    slots: Vec<Option<Current>>,
+) -> Result<(GrowingMap, Seat<Option<Current>, SlotView>), GrowError>
+    requires some { 1 ≤ length slots.items }
+    requires few { length slots.items ≤ 256 }
+    requires laid { (map : Map) × (opening_of_map map ≡ map_of index.now)
+        × (places_of_map map ≡ length slots.items) × AreLaid map slots.items }
+    ensures opened { IfOk result (λ opened. opening_of opened.0 ≡ map_of index.now) }
+    ensures places { IfOk result (λ opened. places_of opened.0 ≡ length slots.items) }
+    ensures its_own { IfOk result (λ opened. opened.1.table_id ≡ opened.0.table.shared.table_id) }
+    ensures first { IfOk result
+        (λ opened. opened.1.me ≡ (dealer (opening_of opened.0) (places_of opened.0) 0, [])) }
+{
+    let Ok(words) = zeros(alloc, slots.len()) else {
+        return Err(GrowError::OutOfMemory);
+    };
+    let origin = Origin {
+        index: Snapshot::of(index),
+        slots: slots.len() as u64,
+    };
+    match Table::<Option<Current>, SlotView, Origin, RuleOfSlots, Global>::new(
+        alloc, &words, slots, &origin,
+    ) {
+        Ok((table, seat)) => Ok((
+            GrowingMap {
+                table,
+                fan: index.rest().store().fan(),
+                renewing: AtomicBool::new(false),
+            },
+            seat,
+        )),
+        Err(_) => Err(GrowError::OutOfMemory),
+    }
+}
+
+// Lays the sessions of a map into slots, in their order.
+fn lay(
+    alloc: Global,
+    map: &Arc<Map>,
+    mut sessions: Vec<blink_map::Session>,
+) -> Result<Vec<Option<Current>>, AllocError>
+    requires first { AreFirst (arc_value map.now) sessions.items }
+    ensures laid { IfOk result (λ slots. AreLaid (arc_value map.now) slots.items) }
+    ensures width { IfOk result (λ slots. length slots.items ≡ length sessions.items) }
+{
+    let mut slots = Vec::new(alloc);
+    for _slot in 0..sessions.len() {
+        let session = sessions.remove(0);
+        let owner = Arc::try_clone(map)?;
+        let held = Current {
+            map: owner,
+            session,
+            number: 0,
+        };
+        lay_one(&mut slots, held)?;
+    }
+    Ok(slots)
+}
+
+// Adds a slot at the end.
+fn lay_one(slots: &mut Vec<Option<Current>>, held: Current) -> Result<(), AllocError>
+    ensures { OnOk result (slots.new.items ≡ slots.old.items ++ Some held ∷ []) }
+{
+    match slots.push(Some(held)) {
+        Ok(()) => Ok(()),
+        Err(_) => Err(AllocError),
+    }
+}
+
+// Adds a session at the end.
+fn push(sessions: &mut Vec<Session>, session: Session) -> Result<(), AllocError>
+    ensures { OnOk result (sessions.new.items ≡ sessions.old.items ++ session ∷ []) }
+{
+    match sessions.push(session) {
+        Ok(()) => Ok(()),
+        Err(_) => Err(AllocError),
+    }
+}
+
+// So many words of free slots.
+fn zeros(alloc: Global, count: usize) -> Result<Vec<u64>, AllocError>
+    ensures { IfOk result (λ words. words.items ≡ replicate count 0) }
+{
+    vec![in alloc; 0u64; count]
+}

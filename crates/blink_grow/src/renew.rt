@@ -1,0 +1,108 @@
+//! Renewing a growing map: all its sessions are gathered, the entries are copied into the next map with more room, and a session of that
+//! map is put into each slot.
+ghost use Rattle.std.specs.Prelude.{IfErr};
+ghost use Rattle.blink_index.specs.{map_of};
+ghost use Rattle.blink_grow.specs.Renewing.{IsCopied, IsRefusal};
+
+use crate::copy::{Begun, Copied};
+use crate::error::GrowError;
+use crate::gather::tell_all;
+use crate::growing::GrowingMap;
+use crate::next::open_next;
+use crate::slots::{Current, SlotView};
+use atomic_table::Seat;
+use std::alloc::Global;
+use std::sync::Wait;
+use std::sync::atomic::Ordering;
+
+// How often a renewal looks for a session that a call has, before it gives up. It yields the processor between two looks.
+const LOOKS: u32 = 1_000_000;
+
+impl GrowingMap {
+    /// Renews the map: its entries are packed into another map, with new room for changes. The map does so by itself where a change
+    /// finds no room. Who calls it in good time, from a thread of his own, spares other threads the renewal, and not the pause: all
+    /// calls wait while the map is renewed, searches too. Where another thread renews the map already, the call waits for it.
+    ///
+    /// The call refuses with `Busy`, if a session is held up in the midst of a call, so that a million looks didn't find it in its slot;
+    /// with `TooLarge`, if the entries leave too few of the 1,048,575 page numbers; and with `OutOfMemory`, if memory was refused. Then
+    /// the map goes on with the room that it has left.
+    pub fn renew<R: Wait>(&self, rt: &R, alloc: Global) -> Result<(), GrowError>
+        ensures refused { IfErr result IsRefusal }
+    {
+        self.renew_once(rt, alloc, None)
+    }
+
+    // Renews the map, unless another thread does so, or has done so since the map of this number was found full.
+    pub(crate) fn renew_once<R: Wait>(
+        &self,
+        rt: &R,
+        alloc: Global,
+        full: Option<u64>,
+    ) -> Result<(), GrowError>
+        ensures refused { IfErr result IsRefusal }
+    {
+        if self.renewing.swap(true, Ordering::SeqCst) {
+            self.wait_for_renewal(rt);
+            return Ok(());
+        }
+        let outcome = self.renew_alone(alloc, full);
+        self.renewing.store(false, Ordering::SeqCst);
+        outcome
+    }
+
+    // Renews the map, unless its number is another one by now.
+    fn renew_alone(&self, alloc: Global, full: Option<u64>) -> Result<(), GrowError>
+        ensures refused { IfErr result IsRefusal }
+    {
+        let Begun {
+            mut seat,
+            lead,
+            others,
+        } = match self.begin(alloc, LOOKS) {
+            Ok(begun) => begun,
+            Err(refusal) => return Err(refusal),
+        };
+        let renewed = match full {
+            Some(number) => number != lead.number,
+            None => false,
+        };
+        if renewed {
+            self.give_all(&mut seat, lead, others);
+            return Ok(());
+        }
+        match self.copy(alloc, &mut seat, lead, others, LOOKS) {
+            Ok(copied) => self.go_over(alloc, &mut seat, copied),
+            Err(refusal) => Err(refusal),
+        }
+    }
+
+    // Opens the next map over the index that was made, and makes it the current one. Where it isn't opened, the sessions are put back.
+    fn go_over(
+        &self,
+        alloc: Global,
+        seat: &mut Seat<Option<Current>, SlotView>,
+        copied: Copied,
+    ) -> Result<(), GrowError>
+        requires copied { IsCopied self.now seat.old copied.lead copied.others.items (map_of copied.index) }
+        ensures refused { IfErr result IsRefusal }
+    {
+        let Copied {
+            mut lead,
+            others,
+            index,
+        } = copied;
+        let slots = self.table.slot_count() as u32;
+        match open_next(alloc, &index, slots, lead.number.wrapping_add(1)) {
+            Ok((next, next_others)) => {
+                tell_all(&mut lead, others);
+                let next = self.switch(seat, next);
+                self.give_all(seat, next, next_others);
+                Ok(())
+            }
+            Err(refusal) => {
+                self.give_all(seat, lead, others);
+                Err(refusal)
+            }
+        }
+    }
+}

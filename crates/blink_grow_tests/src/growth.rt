@@ -1,0 +1,87 @@
+//! A map by one thread, which has to be renewed again and again.
+use crate::same::{given, same};
+use crate::shared::Single;
+use blink_batch::{Answer, Op, Plain};
+
+// The number after this one in a fixed sequence that looks like chance.
+fn next(drawn: u64) -> u64 {
+    drawn
+        .wrapping_mul(6_364_136_223_846_793_005)
+        .wrapping_add(1_442_695_040_888_963_407)
+}
+
+const KEYS: u64 = 40_000;
+
+// Few pointers, so that an operation that expects one often finds it.
+const POINTERS: u64 = 3;
+
+// The operation that a number stands for: of its high bits, which look most like chance. Half of them are insertions.
+fn operation(drawn: u64) -> Op {
+    let key = (drawn >> 32) % KEYS;
+    let pointer = (drawn >> 24) % POINTERS;
+    match drawn >> 60 {
+        0 => Op::Find(key),
+        1 => Op::Delete(key),
+        2 => Op::DeleteExact(key, pointer),
+        3 => Op::Replace(key, pointer),
+        4 | 5 => Op::Exchange(key, pointer, (drawn >> 28) % POINTERS),
+        _ => Op::Insert(key, pointer),
+    }
+}
+
+// An empty map has 256 page numbers for changes. In the end the entries need over 600 pages.
+#[test]
+fn a_map_that_grows_answers_as_the_plain_map(rt: HostRuntime) {
+    let alloc = rt.alloc();
+    let mut plain = Plain::new(alloc);
+    let mut map = given(&rt, Single::new(&rt, alloc));
+    let mut drawn = 3;
+    for _ in 0..60_000 {
+        drawn = next(drawn);
+        let op = operation(drawn);
+        let expected = given(&rt, plain.apply(op));
+        map.call(&rt, alloc, op, expected);
+    }
+    let entries = given(&rt, map.close(&rt, alloc).entries(alloc));
+    same(&rt, &entries.as_slice(), &plain.entries());
+}
+
+// How many keys wait in the queue, and how many go through it. Each 16 of them use up a page number at least, so one map would need
+// 12,500 page numbers.
+const WAITING: u64 = 1_000;
+
+const THROUGH: u64 = 200_000;
+
+#[test]
+fn a_queue_goes_on_in_the_room_of_its_entries(rt: HostRuntime) {
+    let alloc = rt.alloc();
+    let mut map = given(&rt, Single::new(&rt, alloc));
+    for key in 0..THROUGH {
+        map.call(&rt, alloc, Op::Insert(key, key ^ 5), Answer::Inserted);
+        if key >= WAITING {
+            let gone = key - WAITING;
+            map.call(&rt, alloc, Op::Delete(gone), Answer::Removed(gone ^ 5));
+        }
+    }
+    let index = map.close(&rt, alloc);
+    let entries = given(&rt, index.entries(alloc));
+    same(&rt, &entries.len(), &1_000);
+    same(&rt, &index.find(199_000), &Some(199_000 ^ 5));
+    same(&rt, &index.find(198_999), &None);
+    // 1,000 entries in leaves of 32, and one inner page above these
+    same(&rt, &index.page_count(), &33);
+}
+
+#[test]
+fn a_renewed_map_has_its_entries(rt: HostRuntime) {
+    let alloc = rt.alloc();
+    let mut map = given(&rt, Single::new(&rt, alloc));
+    map.call(&rt, alloc, Op::Insert(5, 50), Answer::Inserted);
+    same(&rt, &map.renew(&rt, alloc), &Ok(()));
+    map.call(&rt, alloc, Op::Find(5), Answer::Found(50));
+    map.call(&rt, alloc, Op::Insert(5, 60), Answer::Exists(50));
+    same(&rt, &map.renew(&rt, alloc), &Ok(()));
+    map.call(&rt, alloc, Op::Delete(5), Answer::Removed(50));
+    same(&rt, &map.renew(&rt, alloc), &Ok(()));
+    map.call(&rt, alloc, Op::Find(5), Answer::Absent);
+}

@@ -1,0 +1,13 @@
+//! Tests of the calls that `blink_grow` offers.
+#![tactic(auto)]
+
+#[cfg(test)]
+mod growth;
+#[cfg(test)]
+mod memory;
+#[cfg(test)]
+mod same;
+#[cfg(test)]
+mod shared;
+#[cfg(test)]
+mod threads;

@@ -1,0 +1,118 @@
+//! A growing map with one session, whose calls have no condition: what is so of them is in the type.
+ghost use Rattle.std.specs.Prelude.{All, IfOk};
+ghost use Rattle.blink_batch.specs.{FitsWords};
+ghost use Rattle.blink_grow.specs.{IsSessionOf, IsUpdate};
+
+use crate::same::{given, same_for};
+use blink_batch::{Answer, Op};
+use blink_grow::{GrowError, GrowingMap, Session};
+use blink_index::Index;
+use std::alloc::Global;
+use std::process::Abort;
+use std::sync::Wait;
+
+// A map, and its only session.
+#[derive(Drop)]
+pub(crate) struct Single {
+    map: GrowingMap,
+    session: Session,
+    ghost its_own: { IsSessionOf map session },
+}
+
+impl Single {
+    // An empty map; a refusal, if memory was refused.
+    pub(crate) fn new(rt: &impl Abort, alloc: Global) -> Result<Single, GrowError> {
+        let (map, mut sessions) = match GrowingMap::new(alloc, 1) {
+            Ok(opened) => opened,
+            Err(refusal) => return Err(refusal),
+        };
+        let session = sessions.pop().expect(rt, "no session");
+        Ok(Single { map, session })
+    }
+
+    // Runs the operation.
+    pub(crate) fn apply<R: Wait>(
+        &mut self,
+        rt: &R,
+        alloc: Global,
+        op: Op,
+    ) -> Result<Answer, GrowError> {
+        let Single { map, session } = self;
+        apply(rt, alloc, map, session, op)
+    }
+
+    // The operation gives this.
+    pub(crate) fn call<R: Wait + Abort>(
+        &mut self,
+        rt: &R,
+        alloc: Global,
+        op: Op,
+        expected: Answer,
+    ) {
+        let answer = self.apply(rt, alloc, op);
+        same_for(rt, &answer, &Ok(expected), &op);
+    }
+
+    // Renews the map.
+    pub(crate) fn renew<R: Wait>(&self, rt: &R, alloc: Global) -> Result<(), GrowError> {
+        self.map.renew(rt, alloc)
+    }
+
+    // Closes the map with its session.
+    pub(crate) fn close(self, rt: &impl Abort, alloc: Global) -> Index {
+        let Single { map, session } = self;
+        let mut sessions = Vec::new(alloc);
+        given(rt, sessions.push(session).map_err(|_| GrowError::OutOfMemory));
+        close(rt, alloc, map, sessions)
+    }
+}
+
+// Closes the map; after a refusal the call is made again.
+pub(crate) fn close(
+    rt: &impl Abort,
+    alloc: Global,
+    map: GrowingMap,
+    sessions: Vec<Session>,
+) -> Index
+    requires { All (IsSessionOf map) sessions.items }
+{
+    match map.close(alloc, sessions) {
+        Ok(index) => index,
+        Err(unclosed) => {
+            same_for(rt, &unclosed.refusal, &GrowError::OutOfMemory, &"close");
+            let again = unclosed.map.close(alloc, unclosed.sessions).ok();
+            again.expect(rt, "not closed")
+        }
+    }
+}
+
+// The operation, if it changes a map, or the key that it looks up.
+fn change_of(op: Op) -> Result<Op, u64>
+    ensures { IfOk result (λ op. IsUpdate op × FitsWords op) }
+{
+    match op {
+        Op::Find(key) => Err(key),
+        Op::Insert(key, pointer) => Ok(Op::Insert(key, pointer)),
+        Op::Delete(key) => Ok(Op::Delete(key)),
+        Op::Replace(key, pointer) => Ok(Op::Replace(key, pointer)),
+        Op::Exchange(key, expected, pointer) => Ok(Op::Exchange(key, expected, pointer)),
+        Op::DeleteExact(key, expected) => Ok(Op::DeleteExact(key, expected)),
+    }
+}
+
+// Runs the operation by this session.
+pub(crate) fn apply<R: Wait>(
+    rt: &R,
+    alloc: Global,
+    map: &GrowingMap,
+    session: &mut Session,
+    op: Op,
+) -> Result<Answer, GrowError>
+    requires { IsSessionOf map.now session.old }
+    ensures { IsSessionOf map.now session.new }
+{
+    match change_of(op) {
+        Ok(op) => map.change(rt, alloc, session, op),
+        Err(key) => Ok(op.answer(map.find(rt, session, key))),
+    }
+}
