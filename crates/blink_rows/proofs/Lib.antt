@@ -3,4 +3,7 @@ pub mod EntriesAsWords
 pub mod LawfulParts
 pub mod WhatRowsSay
 pub mod PageWords
+pub mod LogContent
+pub mod RecordCounts
+pub mod LogWords
 pub mod Offered

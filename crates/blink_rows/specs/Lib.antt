@@ -4,6 +4,8 @@
 pub use Rattle.blink_rows.specs.Row.{IsLawfulPrime, IsPageRow, IsPrimeRow, IsRowOf, IsRowOfNoPage, IsRowOfNoPrime, page_words, prime_words}
 -- a page word: it names a row, and counts the records in it
 pub use Rattle.blink_rows.specs.Naming.{no_records, page_word, records_in, row_in}
+-- a leaf's log: the records that stand in a row behind its base, and what both mean together
+pub use Rattle.blink_rows.specs.Log.{AllFit, BeginsWith, Fits, IsLogged, IsLoggedRow, applied, content, counted, page_after, page_with, pointer_after, record_words, row_words}
 -- the size of a table as plain data
 pub use Rattle.blink_rows.specs.Counts.{AreBounded, PlainCounts}
 -- ---- for proofs above
@@ -11,5 +13,6 @@ pub use Rattle.blink_rows.specs.Row.{flat}
 -- ---- the files
 pub mod Row
 pub mod Naming
+pub mod Log
 pub mod Counts
 pub mod CountsView

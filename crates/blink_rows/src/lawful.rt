@@ -33,8 +33,8 @@ pub(crate) fn is_lawful(
     level == 0 || lead_down(entries, high)
 }
 
-// Whether a key is above a floor.
-fn is_above(key: u64, floor: Option<u64>) -> bool
+/// Whether a key is above a floor.
+pub(crate) fn is_above(key: u64, floor: Option<u64>) -> bool
     ensures { IsTrue result ↔ (least_above floor ≤ key) }
 {
     match floor {

@@ -8,6 +8,8 @@ mod counts;
 mod lawful;
 pub mod layout;
 mod limits;
+mod log;
+mod logged;
 mod naming;
 mod pages;
 mod primes;
@@ -17,7 +19,11 @@ mod words;
 pub use allowance::Allowance;
 pub use blink_page::MAX_NEW_PAGES_PER_INSERT;
 pub use counts::Counts;
-pub use limits::{HEAD_WORDS, KIND_LIMIT, MAX_ROWS_PER_INSERT, RECORD_LIMIT, ROW_LIMIT, ROW_WORDS};
+pub use limits::{
+    HEAD_WORDS, KIND_LIMIT, MAX_RECORDS, MAX_ROWS_PER_INSERT, RECORD_LIMIT, ROW_LIMIT, ROW_WORDS,
+};
+pub use log::{Kind, Record};
+pub use logged::{find_in_row, page_in_row};
 pub use naming::{Records, page_word, records_in, row_in};
 pub use pages::{page_row, row_page};
 pub use primes::{prime_row, row_prime};

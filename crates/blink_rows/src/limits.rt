@@ -18,3 +18,6 @@ pub const RECORD_LIMIT: u64 = 16;
 
 /// The records' kinds are below this, which is 2 to the power of 24: a page word has 2 bits for the kind of each of 12 records.
 pub const KIND_LIMIT: u64 = 16_777_216;
+
+/// The greatest number of records in a row: a page word has the kinds of so many.
+pub const MAX_RECORDS: usize = 12;

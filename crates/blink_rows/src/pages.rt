@@ -91,8 +91,8 @@ fn link_of(word: u64) -> Option<Option<u32>>
     page_number(word).map(Some)
 }
 
-// The number of entries that this word stores, if a page has room for that many.
-fn count_of(word: u64) -> Option<usize>
+/// The number of entries that this word stores, if a page has room for that many.
+pub(crate) fn count_of(word: u64) -> Option<usize>
     ensures some { IfSome result (λ count. (count ≡ word) × (count ≤ MAX_FAN)) }
     ensures none { IfNone result (MAX_FAN < word) }
 {
