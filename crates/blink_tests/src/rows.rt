@@ -3,8 +3,8 @@ use crate::fixtures::{same, same_for};
 use arrayvec::ArrayVec;
 use blink_page::{GREATEST_KEY, Page, Prime};
 use blink_rows::{
-    Allowance, Counts, ROW_WORDS, Records, Span, page_row, page_word, prime_row, records_in, row_in,
-    row_page, row_prime,
+    Allowance, Counts, Kind, ROW_WORDS, Record, Records, Span, find_in_row, page_in_row, page_row,
+    page_word, prime_row, records_in, row_in, row_page, row_prime,
 };
 use std::process::Abort;
 
@@ -198,5 +198,157 @@ fn a_page_word_counts_records_above_its_row(rt: HostRuntime) {
     // one record of kind 2, in row 5: 5 + 2 to the 33 + 2 times 2 to the 37
     is_page_word(&rt, 283_467_841_541, 5, 1, 2);
     // twelve of kind 3, in the greatest row: 2 to the 61, less 3 times 2 to the 33, less 1
-    is_page_word(&rt, 2_305_842_983_443_890_175, 8_589_934_591, 12, 16_777_215);
+    is_page_word(
+        &rt,
+        2_305_842_983_443_890_175,
+        8_589_934_591,
+        12,
+        16_777_215,
+    );
+}
+
+// The row of that leaf with a log: 5 gets another pointer, 4 goes and comes back, 6 goes. The last word is of no record.
+fn row_with_log(rt: &impl Abort) -> [u64; ROW_WORDS] {
+    row_with(
+        rt,
+        &[
+            0, 1, 3, 6, 3, 3, 4, 40, 5, 50, 6, 60, 5, 55, 4, 99, 4, 44, 6, 7, 77,
+        ],
+    )
+}
+
+// What its page word says of these records: from the oldest on 2 bits for each of the kinds 0, 2, 1, 2.
+const LOG: Records = Records {
+    count: 4,
+    kinds: 38,
+};
+
+// There are no records.
+const NONE: Records = Records { count: 0, kinds: 0 };
+
+// What that leaf becomes.
+fn leaf_after_log() -> Page {
+    let mut items = ArrayVec::new();
+    items.push((4, 44));
+    items.push((5, 55));
+    Page {
+        level: 0,
+        floor: Some(3),
+        high: 6,
+        right: Some(3),
+        items,
+    }
+}
+
+#[test]
+fn a_row_with_a_log_is_read_as_the_page_after_all_records(rt: HostRuntime) {
+    let words = row_with_log(&rt);
+    same(&rt, &page_in_row(&words, LOG), &Some(leaf_after_log()));
+    same(&rt, &page_in_row(&leaf_row(&rt), NONE), &Some(leaf()));
+}
+
+// The key has this pointer in the row.
+fn has_pointer(rt: &impl Abort, words: &[u64; ROW_WORDS], key: u64, pointer: Option<u64>) {
+    same_for(rt, &find_in_row(words, LOG, key), &pointer, &key);
+}
+
+#[test]
+fn the_newest_record_says_what_a_key_maps_to(rt: HostRuntime) {
+    let words = row_with_log(&rt);
+    has_pointer(&rt, &words, 4, Some(44));
+    has_pointer(&rt, &words, 5, Some(55));
+    has_pointer(&rt, &words, 6, None);
+    has_pointer(&rt, &words, 7, None);
+    same(&rt, &find_in_row(&words, NONE, 6), &Some(60));
+}
+
+// No page has this said of the records in the row.
+fn means_no_page(rt: &impl Abort, words: &[u64; ROW_WORDS], count: u8, kinds: u32) {
+    let records = Records { count, kinds };
+    same_for(rt, &page_in_row(words, records), &None, &(count, kinds));
+}
+
+#[test]
+fn words_and_records_that_mean_no_page(rt: HostRuntime) {
+    let words = row_with_log(&rt);
+    // 5 is there already
+    means_no_page(&rt, &words, 1, 1);
+    // 4 is there already when the second record adds it
+    means_no_page(&rt, &words, 2, 1);
+    // no kind is 3
+    means_no_page(&rt, &words, 1, 3);
+    // one record has no kind for a second
+    means_no_page(&rt, &words, 1, 4);
+    // 7 is no key of the page
+    means_no_page(&rt, &row_but(&rt, &words, 12, 7), 1, 1);
+    // more records than a row may have
+    means_no_page(&rt, &words, 13, 0);
+    // words that are no page without the records
+    means_no_page(&rt, &row_but(&rt, &words, 5, 33), 0, 0);
+}
+
+// With a record of this kind behind them the page word says this.
+fn is_followed(rt: &impl Abort, records: Records, kind: Kind, count: u8, kinds: u32) {
+    assert!(rt; records.count < 12 && records.kinds < 16_777_216);
+    same_for(rt, &records.with(kind), &Records { count, kinds }, &kind);
+}
+
+#[test]
+fn a_page_word_has_two_bits_for_each_record(rt: HostRuntime) {
+    is_followed(&rt, NONE, Kind::Replaced, 1, 0);
+    is_followed(&rt, Records { count: 1, kinds: 0 }, Kind::Removed, 2, 2);
+    is_followed(&rt, Records { count: 2, kinds: 2 }, Kind::Added, 3, 9);
+    is_followed(&rt, Records { count: 3, kinds: 9 }, Kind::Removed, 4, 38);
+}
+
+// The record with so many older ones has this kind.
+fn has_kind(rt: &impl Abort, older: u8, kind: Kind) {
+    assert!(rt; older < 4);
+    same_for(rt, &LOG.kind(older), &kind, &older);
+}
+
+#[test]
+fn a_page_word_tells_each_record_s_kind(rt: HostRuntime) {
+    has_kind(&rt, 0, Kind::Replaced);
+    has_kind(&rt, 1, Kind::Removed);
+    has_kind(&rt, 2, Kind::Added);
+    has_kind(&rt, 3, Kind::Removed);
+}
+
+#[test]
+fn a_page_word_tells_how_many_entries_a_leaf_has(rt: HostRuntime) {
+    same(&rt, &NONE.live(3), &3);
+    // one was added and two removed
+    same(&rt, &LOG.live(3), &2);
+}
+
+// Whether a row has room for a record behind a base of so many entries and so many records.
+fn has_room(rt: &impl Abort, base: usize, count: u8, expected: bool) {
+    assert!(rt; base <= 32);
+    let records = Records { count, kinds: 0 };
+    same_for(rt, &records.has_room(base), &expected, &(base, count));
+}
+
+#[test]
+fn a_row_has_room_for_twelve_records_in_seventy_words(rt: HostRuntime) {
+    has_room(&rt, 0, 11, true);
+    has_room(&rt, 0, 12, false);
+    has_room(&rt, 31, 0, true);
+    has_room(&rt, 32, 0, false);
+    has_room(&rt, 20, 11, true);
+    has_room(&rt, 21, 11, false);
+}
+
+#[test]
+fn a_record_changes_a_leaf(rt: HostRuntime) {
+    let removal = Record {
+        kind: Kind::Removed,
+        key: 5,
+        pointer: 0,
+    };
+    let mut page = leaf();
+    assert!(rt; page.level == 0 && page.look(5).is_some());
+    removal.apply(&mut page);
+    same(&rt, &page.look(5), &None);
+    same(&rt, &removal.pointer_after(), &None);
 }
