@@ -2,6 +2,8 @@ pub mod OperationBegins
 pub mod ReadsPage
 pub mod ReadsPrime
 pub mod ReadsRow
+pub mod VersionsAreRead
+pub mod RecordsInRow
 pub mod EntriesInRow
 pub mod RootInRow
 pub mod WaysFromRow

@@ -17,5 +17,6 @@ pub mod SharesAreKnown
 pub mod RefusalsTold
 pub mod PoolStays
 pub mod LooksStay
+pub mod VersionsOfPages
 pub mod RowsAreNamed
 pub mod LeavesStayInChain

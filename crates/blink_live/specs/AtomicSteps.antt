@@ -1,5 +1,5 @@
 -- The knowledge that each kind of atomic step gives whoever takes it.
-use Rattle.std.specs.Prelude.{◌≡◌, ◌≢◌, ◌⊎◌, ℕ, suc, ◌+◌, ◌++◌, ◌<◌, ◌≤◌, Option, Some, None, IsSome, List, length, All, Contains, slice_index}
+use Rattle.std.specs.Prelude.{◌≡◌, ◌≢◌, ◌⊎◌, ℕ, suc, ◌+◌, ◌++◌, ◌<◌, ◌≤◌, Option, Some, None, IsSome, List, [], length, All, Contains, slice_index}
 use mathlib.Core.List.{IsPrefix}
 use Rattle.atomic_table.specs.Table.{Step}
 use Rattle.blink_batch.specs.declared.Op.{Op}
@@ -23,7 +23,7 @@ use Rattle.blink_live.specs.declared.view.View.{View}
 use Rattle.blink_live.specs.Changes.{after, changes_made, states_of, Learns}
 use Rattle.blink_live.specs.Accounts.{KnowsAuthors}
 use Rattle.blink_live.specs.Views.{SeatState, IsAnnounced, KnowsItsOwn, ShowsNoMore, for_call, going_on, has_pages, has_rows, is_busy, knows_word, stage_word, changed_by, publishes_from, reading, forgets_told, learns_of_others, span, takes_out, SawItsOwn}
-use Rattle.blink_live.specs.Words.{AreNumbersIn, AreRowsIn, IsRowNumber, row_start}
+use Rattle.blink_live.specs.Words.{AreNumbersIn, AreRowsIn, IsRowNumber, row_start, IsVersion}
 
 -- the page of this number has a page word
 abbrev pub IsNumberIn : Plan → ℕ → Type 0
@@ -44,7 +44,7 @@ pub record Begins (op : Op) (me : SeatState) (row : ℕ) (machine : PlainMachine
   pub prime : List ℕ
   pub way : ℕ
   pub seen : List Change
-  pub is : then ≡ (reading (for_call me.0 op) machine way row (prime_words prime) seen, me.1)
+  pub is : then ≡ (reading (for_call me.0 op) machine way row (prime_words prime) [] seen, me.1)
   pub learns : Learns me.0 seen
   pub row_in_range : IsRowNumber me.0.plan.counts row
   pub some_level : 0 < length prime
@@ -71,14 +71,17 @@ AnswersAfter kept m machine = (machine.answer ≡ m.answer) ⊎ ((m.answer ≡ N
 abbrev pub TellsStates : (ℕ → Option ℕ) → PlainMachine → PlainPage → Type 0
 TellsStates kept m leaf = (key : ℕ) → target m ≤ key → key ≤ leaf.high → value_at key leaf.entries ≡ kept key
 
--- the operation is `machine` now
-pub record LoadsPage (m : PlainMachine) (number : ℕ) (me : SeatState) (row : ℕ) (machine : PlainMachine) (then : SeatState) : Type 0 where
+-- the operation is `machine` now. The row has the page as a base with records behind it
+pub record LoadsPage (m : PlainMachine) (number : ℕ) (me : SeatState) (word : ℕ) (machine : PlainMachine) (then : SeatState) : Type 0 where
   pub page : PlainPage
+  pub base : PlainPage
+  pub behind : List ℕ
   pub way : ℕ
   pub seen : List Change
-  pub is : then ≡ (reading me.0 machine way row (page_words page) seen, me.1)
+  pub is : then ≡ (reading me.0 machine way (row_in word) (page_words base) behind seen, me.1)
+  pub version : IsVersion word base behind page
   pub learns : Learns me.0 seen
-  pub row_in_range : IsRowNumber me.0.plan.counts row
+  pub row_in_range : IsRowNumber me.0.plan.counts (row_in word)
   pub lawful : IsLawfulPage MAX_FAN page
   pub readable : IsReadable m page
   pub sees : SeesPage m number page machine
@@ -92,7 +95,7 @@ pub record LoadsPage (m : PlainMachine) (number : ℕ) (me : SeatState) (row : �
   pub knows_own : KnowsItsOwn then.0
 
 abbrev pub loads_page : Step ℕ → SeatState → ℕ → SeatState → Type 0
-loads_page st me word then = (m : PlainMachine) → me.0.operation ≡ Some m → NeedsPage m st.word → (machine : PlainMachine) × LoadsPage m st.word me (row_in word) machine then
+loads_page st me word then = (m : PlainMachine) → me.0.operation ≡ Some m → NeedsPage m st.word → (machine : PlainMachine) × LoadsPage m st.word me word machine then
 
 -- ---- the load of the prime block's page word by an operation under way
 
@@ -114,7 +117,7 @@ pub record LoadsPrime (m : PlainMachine) (me : SeatState) (row : ℕ) (machine :
   pub prime : List ℕ
   pub way : ℕ
   pub seen : List Change
-  pub is : then ≡ (reading me.0 machine way row (prime_words prime) seen, me.1)
+  pub is : then ≡ (reading me.0 machine way row (prime_words prime) [] seen, me.1)
   pub learns : Learns me.0 seen
   pub row_in_range : IsRowNumber me.0.plan.counts row
   pub some_level : 0 < length prime
@@ -165,6 +168,7 @@ looks_around st me row then = LooksAround me then
 pub record LoadsWord (word : ℕ) (me : SeatState) (found : ℕ) (then : SeatState) : Type 0 where
   pub same : then ≡ me
   pub is_its : (row i : ℕ) (content : List ℕ) → me.0.reads ≡ Some (row, content) → i < ROW_WORDS → i < length content → word ≡ row_start me.0.plan.counts row + i → found ≡ slice_index content i
+  pub is_behind : (row i : ℕ) (content : List ℕ) → me.0.reads ≡ Some (row, content) → length content + i < ROW_WORDS → i < length me.0.behind → word ≡ row_start me.0.plan.counts row + (length content + i) → found ≡ slice_index me.0.behind i
 
 abbrev pub loads_word : Step ℕ → SeatState → ℕ → SeatState → Type 0
 loads_word st = LoadsWord st.word

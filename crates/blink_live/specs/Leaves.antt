@@ -1,5 +1,5 @@
 -- The leaves that words hold, in line along their right links. Their entries are all entries of the tree, whether it is at rest or not.
-use Rattle.std.specs.Prelude.{◌≡◌, ◌≤◌, ℕ, Option, Some, None, List}
+use Rattle.std.specs.Prelude.{◌≤◌, ℕ, Option, Some, None, List}
 use Rattle.blink_batch.specs.declared.Entry.{Entry}
 use Rattle.blink_machine.specs.{pairs_of}
 use Rattle.blink_page.specs.declared.limits.TheConstants.{GREATEST_KEY, MAX_FAN}

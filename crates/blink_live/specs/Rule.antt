@@ -1,6 +1,6 @@
 -- The rule of the table: between any two atomic steps the words and the views of the seats together represent a tree state for
 -- which the invariant holds.
-use Rattle.std.specs.Prelude.{◌≡◌, ℕ, suc, ◌+◌, ◌*◌, ◌<◌, ◌≤◌, Option, Some, None, List, [], ◌∷◌, length, All, Contains, slice_index, ⊤}
+use Rattle.std.specs.Prelude.{◌≡◌, ℕ, suc, ◌+◌, ◌*◌, ◌<◌, ◌≤◌, Option, Some, None, List, [], ◌∷◌, ◌++◌, length, All, Contains, slice_index, ⊤}
 use mathlib.Core.Option.{some}
 use mathlib.Core.List.{IsPrefix}
 use lib.ListN.{get_elem?}
@@ -8,7 +8,7 @@ use Rattle.atomic_table.specs.Table.{State}
 use Rattle.blink_batch.specs.declared.Entry.{Entry}
 use Rattle.blink_batch.specs.{pointer_of}
 use Rattle.blink_page.specs.{IsPageNumber, PlainPage}
-use Rattle.blink_rows.specs.{AreBounded, no_records, page_words, prime_words, records_in, row_in}
+use Rattle.blink_rows.specs.{AreBounded, page_words, prime_words, row_in}
 use Rattle.blink_rows.specs.declared.span.Span.{Span}
 use Rattle.blink_machine.specs.{PlainMachine, descent_bound, IsMapAt}
 use Rattle.blink_machine.specs.TreeState.{TreeState}
@@ -25,7 +25,7 @@ use Rattle.blink_live.specs.Accounts.{AreAccounts}
 use Rattle.blink_live.specs.Looks.{HasLooked}
 use Rattle.blink_live.specs.Reuse.{IsReuseSafe, IsWithin}
 use Rattle.blink_live.specs.Views.{IsCommon, IsOwned, latch_number_by, span}
-use Rattle.blink_live.specs.Words.{word_count, place_word, pool_page, pool_row, IsRowNumber, RowBegins}
+use Rattle.blink_live.specs.Words.{word_count, place_word, pool_page, pool_row, IsRowNumber, RowBegins, IsVersion}
 
 -- ---- owners: 0 for nobody, and else a seat's number plus 1
 
@@ -47,16 +47,23 @@ IsPublished plan owners row = IsRowNumber plan.counts row × (owners.row row ≡
 
 -- ---- page words and latch words
 
--- the word names a row: the row is published, and begins with these words. No record stands behind them
+-- the word names a row: the row is published, and begins with these words
 pub record Names (plan : Plan) (owners : Owners) (words : List ℕ) (word : ℕ) (content : List ℕ) : Type 0 where
   pub published : IsPublished plan owners (row_in word)
   pub begins : RowBegins plan.counts words (row_in word) content
-  pub none_behind : records_in word ≡ no_records
 
--- the page word is 0 if the page doesn't exist; else it names a row with the page's words
+-- the word names a row with the page: the row begins with a base, and behind it stand the records that make the page of it
+pub record NamesPage (plan : Plan) (owners : Owners) (words : List ℕ) (word : ℕ) (page : PlainPage) : Type 0 where
+  pub base : PlainPage
+  pub behind : List ℕ
+  pub published : IsPublished plan owners (row_in word)
+  pub begins : RowBegins plan.counts words (row_in word) (page_words base ++ behind)
+  pub version : IsVersion word base behind page
+
+-- the page word is 0 if the page doesn't exist; else it names a row with the page
 abbrev pub PageWordIs : Plan → Owners → List ℕ → ℕ → Option PlainPage → Type 0
 PageWordIs plan owners words word None = word ≡ 0
-PageWordIs plan owners words word (Some page) = Names plan owners words word (page_words page)
+PageWordIs plan owners words word (Some page) = NamesPage plan owners words word page
 
 -- 0, or the latch number of the seat that holds the latch
 abbrev pub latch_word : Owners → Option ℕ → ℕ
@@ -65,14 +72,14 @@ latch_word owners (Some seat) = owners.latch_number seat
 
 -- ---- what a seat knows
 
--- the row that the seat reads is published, and begins with these words
-abbrev pub ReadsRow : Plan → Owners → List ℕ → Option (ℕ × List ℕ) → Type 0
-ReadsRow plan owners words None = ⊤
-ReadsRow plan owners words (Some (row, content)) = IsPublished plan owners row × RowBegins plan.counts words row content
+-- the row that the seat reads is published, and begins with these words; behind them stand those of the records
+abbrev pub ReadsRow : Plan → Owners → List ℕ → Option (ℕ × List ℕ) → List ℕ → Type 0
+ReadsRow plan owners words None behind = ⊤
+ReadsRow plan owners words (Some (row, content)) behind = IsPublished plan owners row × RowBegins plan.counts words row (content ++ behind)
 
 -- and so are the rows that it has noted
 abbrev pub Reads : Plan → Owners → List ℕ → TreeState → View → Type 0
-Reads plan owners words tree_state v = ReadsRow plan owners words v.reads × HasLooked plan owners.row words tree_state.fan tree_state.prime tree_state.pages v.look
+Reads plan owners words tree_state v = ReadsRow plan owners words v.reads v.behind × HasLooked plan owners.row words tree_state.fan tree_state.prime tree_state.pages v.look
 
 -- these rows have this owner
 pub record HasRows (plan : Plan) (owners : Owners) (owner : ℕ) (rows : Span) : Type 0 where

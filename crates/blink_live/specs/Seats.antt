@@ -10,7 +10,7 @@ use Rattle.blink_page.specs.{value_at, PlainPage, IsLawfulPage, Leads}
 use Rattle.blink_page.specs.declared.limits.TheConstants.{LEVELS, MAX_FAN}
 use Rattle.blink_page.specs.declared.search.Way.{Way}
 use Rattle.blink_page.specs.declared.search.Way.TheVariants.{Here}
-use Rattle.blink_rows.specs.{page_words, prime_words}
+use Rattle.blink_rows.specs.{page_words, prime_words, row_in}
 use Rattle.blink_rows.specs.declared.span.Span.{Span}
 use Rattle.blink_machine.specs.declared.machine.Job.TheVariants.{Leaf}
 use Rattle.blink_machine.specs.declared.machine.State.TheVariants.{Going, Want, Ended}
@@ -20,6 +20,7 @@ use Rattle.blink_live.specs.declared.view.Role.{Role}
 use Rattle.blink_live.specs.declared.view.Role.TheVariants.{Pass}
 use Rattle.blink_live.specs.declared.view.View.{View}
 use Rattle.blink_live.specs.AtomicSteps.{Begins, CanGoOn, LoadsPage}
+use Rattle.blink_live.specs.Words.{IsVersion}
 use Rattle.blink_live.specs.Views.{SeatState, IsAnnounced, KnowsItsOwn, SameBesideReads, known_of, plan_of}
 
 -- the seat is that of a pass of this table
@@ -49,15 +50,27 @@ pub record ReadsPage (me : SeatState) (row : ℕ) (page : PlainPage) : Type 0 wh
   pub reads : me.0.reads ≡ Some (row, page_words page)
   pub lawful : IsLawfulPage MAX_FAN page
 
+-- the seat reads the version of the page that this page word names: a base at the begin of the row, and the records behind it
+pub record ReadsVersion (me : SeatState) (word : ℕ) (page : PlainPage) : Type 0 where
+  pub base : PlainPage
+  pub reads : me.0.reads ≡ Some (row_in word, page_words base)
+  pub version : IsVersion word base me.0.behind page
+  pub lawful : IsLawfulPage MAX_FAN page
+
 -- the seat reads the row of this prime block
 pub record ReadsPrime (me : SeatState) (row : ℕ) (prime : List ℕ) : Type 0 where
   pub reads : me.0.reads ≡ Some (row, prime_words prime)
   pub few_levels : length prime < LEVELS
 
--- the seat reads the row of a leaf, which has the state that the seat knows of each key from this one to its high key
-pub record ReadsLeaf (key row : ℕ) (me : SeatState) : Type 0 where
+-- the leaf reaches up to this key, and from there to its high key has these states
+pub record HasStates (known : ℕ → Option ℕ) (key : ℕ) (leaf : PlainPage) : Type 0 where
+  pub reaches : key ≤ leaf.high
+  pub states : (other : ℕ) → key ≤ other → other ≤ leaf.high → value_at other leaf.entries ≡ known other
+
+-- the seat reads a leaf, which has the state that the seat knows of each key from this one to its high key
+pub record ReadsLeaf (key word : ℕ) (me : SeatState) : Type 0 where
   pub leaf : PlainPage
-  pub reads : ReadsPage me row leaf
+  pub reads : ReadsVersion me word leaf
   pub reaches : key ≤ leaf.high
   pub states : (other : ℕ) → key ≤ other → other ≤ leaf.high → value_at other leaf.entries ≡ known_of me.0 other
 
@@ -81,6 +94,12 @@ pub data IsAtLeaf (op : Op) (kept : Option ℕ) (m : PlainMachine) : Type 0 wher
 pub data IsDescending (op : Op) (kept : Option ℕ) (m : PlainMachine) : Type 0 where
   going : IsGoing m → m.answer ≡ None → IsDescending op kept m
   at_leaf : IsAtLeaf op kept m → IsDescending op kept m
+
+-- the leaf has this for the key, which belongs there
+pub record IsSaid (key : ℕ) (page : PlainPage) (said : Option ℕ) : Type 0 where
+  pub maps : value_at key page.entries ≡ said
+  pub belongs : key ≤ page.high
+  pub leaf : page.level ≡ 0
 
 -- the operation is the seat's, and the seat knows what it knew at the beginning, except for what it has read since
 pub record HasRead (op : Op) (first me : SeatState) (m : PlainMachine) : Type 0 where
@@ -112,8 +131,8 @@ pub record IsAtPage (me : SeatState) (key number level : ℕ) : Type 0 where
   pub fits : FitsWords machine.op
   pub announced : IsAnnounced me.0
 
--- the operation has read the page of this number in this row, and from there the key leads this way
-pub record ReadsWay (m : PlainMachine) (key number row : ℕ) (me : SeatState) (way : Way) (kept : Option ℕ) (then : SeatState) : Type 0 where
+-- the operation has read the page of this number, which this page word names, and from there the key leads this way
+pub record ReadsWay (m : PlainMachine) (key number word : ℕ) (me : SeatState) (way : Way) (kept : Option ℕ) (then : SeatState) : Type 0 where
   pub machine : PlainMachine
-  pub loads : LoadsPage m number me row machine then
+  pub loads : LoadsPage m number me word machine then
   pub tells : TellsWayFor key loads.page way kept

@@ -16,7 +16,7 @@ use Rattle.blink_live.specs.Changes.{after}
 use Rattle.blink_live.specs.Looks.{TellsAll}
 use Rattle.blink_live.specs.Scanning.{IsBetween}
 use Rattle.blink_live.specs.Views.{KnowsItsOwn, SeatState}
-use Rattle.blink_live.specs.Words.{IsRowNumber}
+use Rattle.blink_live.specs.Words.{IsRowNumber, IsVersion}
 
 -- these entries are those of one list of changes: of every key from `lo` to `hi` they say what these changes leave
 pub record IsSnapshot (opening : List Entry) (changes : List Change) (lo hi : ℕ) (entries : List Entry) : Type 0 where
@@ -50,14 +50,17 @@ marks_state st me found then = MarksState me then
 
 -- ---- the second load of a page word
 
-abbrev pub reads_again : View → ℕ → List ℕ → View
-reads_again v row words = record v { reads = Some (row, words) }
+abbrev pub reads_again : View → ℕ → List ℕ → List ℕ → View
+reads_again v row words behind = record v { reads = Some (row, words); behind = behind }
 
 -- the seat reads the page. If it has noted this page word, the page tells of each of its keys what the changes of the marked tree
 -- state leave
 pub record ReadsAgain (number : ℕ) (me : SeatState) (word : ℕ) (then : SeatState) : Type 0 where
   pub page : PlainPage
-  pub is : then ≡ (reads_again me.0 (row_in word) (page_words page), me.1)
+  pub base : PlainPage
+  pub behind : List ℕ
+  pub is : then ≡ (reads_again me.0 (row_in word) (page_words base) behind, me.1)
+  pub version : IsVersion word base behind page
   pub row_in_range : IsRowNumber me.0.plan.counts (row_in word)
   pub lawful : Contains me.0.look.leaves (number, word) → IsLawfulPage MAX_FAN page
   pub tells : (changes : List Change) → me.0.look.marked ≡ Some changes → Contains me.0.look.leaves (number, word) → TellsAll (after (pointer_of me.0.plan.opening) changes) page
@@ -89,4 +92,4 @@ IsSameBesideLook old new = new ≡ (record old.0 { look = new.0.look }, old.1)
 
 -- the seat knows what it knew, except for the row that it reads
 abbrev pub IsSameBesideRow : SeatState → SeatState → Type 0
-IsSameBesideRow old new = new ≡ (record old.0 { reads = new.0.reads }, old.1)
+IsSameBesideRow old new = new ≡ (record old.0 { reads = new.0.reads; behind = new.0.behind }, old.1)

@@ -6,7 +6,7 @@ use Rattle.blink_batch.specs.declared.Answer.{Answer}
 use Rattle.blink_batch.specs.declared.Op.{Op}
 use Rattle.blink_page.specs.{IsLawfulPage, PlainPage, place_of, value_at, with_entries}
 use Rattle.blink_page.specs.declared.limits.TheConstants.{MAX_FAN}
-use Rattle.blink_rows.specs.{page_words}
+use Rattle.blink_rows.specs.{page_words, row_in}
 use Rattle.blink_machine.specs.declared.machine.Job.TheVariants.{Leaf}
 use Rattle.blink_machine.specs.declared.machine.Next.TheVariants.{Finish, MoveRight}
 use Rattle.blink_machine.specs.declared.machine.State.{State}
@@ -16,16 +16,16 @@ use Rattle.blink_live.specs.declared.descent.Changed.{Changed}
 use Rattle.blink_live.specs.declared.descent.Changed.TheVariants.{Ended as HasEndedAs, Rests}
 use Rattle.blink_live.specs.declared.descent.Descent.{Descent}
 use Rattle.blink_live.specs.declared.descent.Edit.{Edit}
-use Rattle.blink_live.specs.declared.descent.Edit.TheVariants.{Answers, Full, Right, Write}
+use Rattle.blink_live.specs.declared.descent.Edit.TheVariants.{Answers, Right, Whole, Write}
 use Rattle.blink_live.specs.declared.descent.Splice.{Splice}
 use Rattle.blink_live.specs.declared.descent.Spot.{Spot}
 use Rattle.blink_live.specs.declared.descent.Turned.{Turned}
-use Rattle.blink_live.specs.declared.descent.Turned.TheVariants.{Ended as EndedAs, Moved, Waits, Full as FullAt}
+use Rattle.blink_live.specs.declared.descent.Turned.TheVariants.{Ended as EndedAs, Moved, Waits, Whole as WholeAt}
 use Rattle.blink_live.specs.declared.live.Live.{Live}
 use Rattle.blink_live.specs.declared.room.Room.{Room}
 use Rattle.blink_live.specs.declared.view.View.{View}
 use Rattle.blink_live.specs.Pendings.{IsWaiting}
-use Rattle.blink_live.specs.Seats.{HasSameNumber, IsFirst, IsPassSeat, ReadsPage}
+use Rattle.blink_live.specs.Seats.{HasSameNumber, IsFirst, IsPassSeat, ReadsPage, ReadsVersion}
 use Rattle.blink_live.specs.Updating.{IsUnderWay}
 use Rattle.blink_live.specs.Views.{is_staged}
 use Rattle.blink_live.specs.Words.{IsRowNumber}
@@ -78,7 +78,7 @@ pub record IsSplice (place : ℕ) (splice : Splice) (page next : PlainPage) : Ty
 abbrev pub Makes : PlainMachine → ℕ → Spot → PlainPage → Edit → PlainMachine → Type 0
 Makes m number spot page (Right next) after = after ≡ record m { state = Leave number (MoveRight next) }
 Makes m number spot page (Answers kept) after = after ≡ record m { state = Leave number Finish; answer = Some (answer_at m.op kept) }
-Makes m number spot page (Full row) after = (row ≡ spot.row) × (after ≡ record m { state = SplitNew number page })
+Makes m number spot page (Whole row) after = (row ≡ spot.row) × (after ≡ record m { state = SplitNew number page })
 Makes m number spot page (Write at splice) after = (at ≡ spot) × ((next : PlainPage) × IsSplice spot.place splice page next × (after ≡ record m { state = Change number next spot.kept }))
 
 -- so an operation of this fan may edit its leaf, where the key's place is this
@@ -96,20 +96,21 @@ pub record IsToWrite (live : Live) (op : Op) (descent : Descent) (first seat : S
   pub splices : IsSplice spot.place splice page next
   pub under_way : IsUnderWay live op first seat (at_leaf live.fan op descent (Change descent.leaf next spot.kept) None) room
 
--- the operation is to split its leaf
-pub record IsToSplit (live : Live) (op : Op) (descent : Descent) (first seat : Seat ℕ View) (room : Room) (row : ℕ) : Type 0 where
+-- the operation is `after` now, by what it has read under the latch: a leaf that is full, or has records
+pub record NeedsWhole (live : Live) (op : Op) (descent : Descent) (first seat : Seat ℕ View) (room : Room) (word : ℕ) : Type 0 where
   pub page : PlainPage
-  pub reads : ReadsPage seat.me row page
-  pub in_range : IsRowNumber live.counts row
+  pub after : PlainMachine
+  pub reads : ReadsVersion seat.me word page
+  pub in_range : IsRowNumber live.counts (row_in word)
   pub readable : IsReadable (holding live.fan op descent) page
-  pub only : (other : PlainMachine) → SeesPage (holding live.fan op descent) descent.leaf page other → other ≡ at_leaf live.fan op descent (SplitNew descent.leaf page) None
-  pub under_way : IsUnderWay live op first seat (at_leaf live.fan op descent (SplitNew descent.leaf page) None) room
+  pub only : (other : PlainMachine) → SeesPage (holding live.fan op descent) descent.leaf page other → other ≡ after
+  pub under_way : IsUnderWay live op first seat after room
 
 -- the operation has read its leaf, and this is what it makes of it
 abbrev pub HasMet : Live → Op → Descent → Seat ℕ View → Seat ℕ View → Room → Edit → Type 0
 HasMet live op descent first seat room (Right next) = IsUnderWay live op first seat (at_leaf live.fan op descent (Leave descent.leaf (MoveRight next)) None) room
 HasMet live op descent first seat room (Answers kept) = IsUnderWay live op first seat (leaving live.fan op descent kept) room
-HasMet live op descent first seat room (Full row) = IsToSplit live op descent first seat room row
+HasMet live op descent first seat room (Whole word) = NeedsWhole live op descent first seat room word
 HasMet live op descent first seat room (Write spot splice) = IsToWrite live op descent first seat room spot splice
 
 -- a try to change the leaf has ended so
@@ -117,7 +118,7 @@ abbrev pub HasTurned : Live → Op → Descent → Seat ℕ View → Seat ℕ Vi
 HasTurned live op descent first seat room (EndedAs answer) = IsUnderWay live op first seat (at_leaf live.fan op descent Ended (Some answer)) room
 HasTurned live op descent first seat room Moved = IsUnderWay live op first seat (wanting live.fan op descent) room
 HasTurned live op descent first seat room Waits = IsUnderWay live op first seat (wanting live.fan op descent) room
-HasTurned live op descent first seat room (FullAt row) = IsToSplit live op descent first seat room row
+HasTurned live op descent first seat room (WholeAt word) = NeedsWhole live op descent first seat room word
 
 -- the operation has ended with its answer, or rests
 abbrev pub HasCome : Live → Op → Seat ℕ View → Seat ℕ View → Room → Changed → Type 0

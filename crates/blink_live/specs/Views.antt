@@ -75,6 +75,7 @@ seat_for plan role rows pages share = record {
   operation = None;
   descent_bound = 0;
   reads = None;
+  behind = [];
   seen = [];
   told = [];
   look = no_look;
@@ -137,9 +138,9 @@ pub record KnowsItsOwn (v : View) : Type 0 where
 
 -- ---- reads
 
--- a page word was loaded that names this row with these words: the operation is `after` now
-abbrev pub reading : View → PlainMachine → ℕ → ℕ → List ℕ → List Change → View
-reading v after way row words seen = record v { operation = goes_on after after.state; descent_bound = way; reads = Some (row, words); seen = seen }
+-- a page word was loaded that names this row with these words, and records behind them: the operation is `after` now
+abbrev pub reading : View → PlainMachine → ℕ → ℕ → List ℕ → List ℕ → List Change → View
+reading v after way row words behind seen = record v { operation = goes_on after after.state; descent_bound = way; reads = Some (row, words); behind = behind; seen = seen }
 
 -- the number of the pass's rows that an operation takes when it begins, and of its page numbers
 abbrev pub rows_of : Op → ℕ
@@ -176,7 +177,7 @@ for_call v op = record v {
 
 -- w is v, except for its operation, and for what it reads and has seen
 abbrev pub SameBesideReads : View → View → Type 0
-SameBesideReads v w = w ≡ record v { operation = w.operation; descent_bound = w.descent_bound; reads = w.reads; seen = w.seen }
+SameBesideReads v w = w ≡ record v { operation = w.operation; descent_bound = w.descent_bound; reads = w.reads; behind = w.behind; seen = w.seen }
 
 -- ---- steps that read nothing
 

@@ -1,9 +1,11 @@
 -- The layout of a table's words: where its rows stand, and which rows hold pages.
-use Rattle.std.specs.Prelude.{◌≡◌, ◌⊎◌, ℕ, ◌+◌, ◌-◌, ◌*◌, ◌<◌, ◌≤◌, Some, List, length, slice_index}
-use Rattle.blink_page.specs.{PlainPage}
+use Rattle.std.specs.Prelude.{◌≡◌, ◌⊎◌, ℕ, ◌+◌, ◌-◌, ◌*◌, ◌<◌, ◌≤◌, Some, List, ◌++◌, length, slice_index}
+use Rattle.blink_page.specs.{IsLawfulPage, PlainPage}
 use Rattle.blink_rest.specs.{Pages}
-use Rattle.blink_rows.specs.{PlainCounts, page_words, row_in}
-use Rattle.blink_page.specs.declared.limits.TheConstants.{MAX_PAGE}
+use Rattle.blink_rows.specs.{IsLogged, PlainCounts, counted, page_with, page_words, records_in, row_in}
+use Rattle.blink_rows.specs.Log.{log_words}
+use Rattle.blink_rows.specs.declared.log.Record.{Record}
+use Rattle.blink_page.specs.declared.limits.TheConstants.{MAX_FAN, MAX_PAGE}
 use Rattle.blink_rows.specs.declared.limits.TheConstants.{ROW_WORDS}
 use Rattle.blink_rows.specs.declared.span.Span.{Span}
 
@@ -57,11 +59,23 @@ pub record BeginWith (words content : List ℕ) : Type 0 where
 abbrev pub IsSameOutside : ℕ → ℕ → List ℕ → List ℕ → Type 0
 IsSameOutside from to old new = (n : ℕ) → (n < from) ⊎ (to ≤ n) → slice_index new n ≡ slice_index old n
 
--- the page word of this number names a row that holds the page
+-- what a page word says of its row, together with the base at the row's begin and the words behind it: these are the page's records,
+-- and make the page of the base
+pub record IsVersion (word : ℕ) (base : PlainPage) (behind : List ℕ) (page : PlainPage) : Type 0 where
+  pub records : List Record
+  pub words : behind ≡ log_words records
+  pub counts : counted records ≡ records_in word
+  pub is : page ≡ page_with base records
+  pub logged : IsLawfulPage MAX_FAN page → IsLogged MAX_FAN base records
+
+-- the page word of this number names a row that holds the page: a base, and the records behind it
 pub record KeepsPage (counts : PlainCounts) (words : List ℕ) (number : ℕ) (page : PlainPage) : Type 0 where
   pub number_in_range : (1 ≤ number) × (number < counts.numbers)
   pub row_in_range : IsRowNumber counts (named_row words number)
-  pub row_begins : RowBegins counts words (named_row words number) (page_words page)
+  pub base : PlainPage
+  pub behind : List ℕ
+  pub row_begins : RowBegins counts words (named_row words number) (page_words base ++ behind)
+  pub version : IsVersion (slice_index words number) base behind page
 
 -- the words hold each of these pages
 abbrev pub KeepsPages : PlainCounts → List ℕ → Pages → Type 0

@@ -25,7 +25,7 @@ use blink_index::Index;
 use blink_page::{MAX_PAGE, Page, Prime};
 use blink_rest::Rest;
 use blink_rows::layout::{COUNT, ENTRY_WORDS};
-use blink_rows::{Counts, HEAD_WORDS, ROW_WORDS, row_in, row_page, row_prime};
+use blink_rows::{Counts, HEAD_WORDS, ROW_WORDS, page_in_row, records_in, row_in, row_prime};
 use blink_store::{Store, StoreError};
 use std::alloc::{AllocError, Global};
 use std::marker::Brand;
@@ -263,11 +263,12 @@ pub(crate) fn page_at(closed: &Closed<u8, Global>, counts: &Counts, number: u32)
     requires kept { HasPageAt counts.now (slots_items closed.now.words) number }
     ensures { IsPageAt counts.now (slots_items closed.now.words) number result }
 {
-    let row = row_in(closed.word(number as usize));
-    let start = counts.row_start(row) as usize;
-    let count = closed.word(start + COUNT) as usize;
+    let word = closed.word(number as usize);
+    let records = records_in(word);
+    let start = counts.row_start(row_in(word)) as usize;
+    let count = closed.word(start + COUNT) as usize + usize::from(records.count);
     let words = row_words(closed, start, HEAD_WORDS + ENTRY_WORDS * count);
-    match row_page(&words) {
+    match page_in_row(&words, records) {
         Some(page) => {
             // Read for the proof: a page is lawful.
             let _level = page.level;

@@ -44,8 +44,8 @@ pub(crate) enum Edit {
     Right(u32),
     /// The leaf stays as it is: it has this pointer for the key, or none.
     Answers(Option<u64>),
-    /// The leaf, whose row this is, has to be split.
-    Full(u64),
+    /// The leaf, whose page word this is, is full or has records: the operation has to see all of it.
+    Whole(u64),
     /// The entries change.
     Write(Spot, Splice),
 }
@@ -58,8 +58,8 @@ pub(crate) enum Turned {
     Moved,
     /// Another seat has the latch.
     Waits,
-    /// The operation holds the latch of a leaf that it has to split, and this is the leaf's row.
-    Full(u64),
+    /// The operation holds the latch of a leaf of which it has to see all, and this is the leaf's page word.
+    Whole(u64),
 }
 
 /// What has become of an operation that changes the tree.

@@ -4,6 +4,7 @@ ghost use mathlib.Core.List.{IsPrefix};
 ghost use Rattle.blink_batch.specs.{answer_at, answer_of, key_of, FitsWords};
 ghost use Rattle.blink_batch.specs.declared.Op.TheVariants.{Find, Delete, DeleteExact, Exchange, Insert, Replace};
 ghost use Rattle.blink_machine.specs.{IsUpdate};
+ghost use Rattle.blink_rows.specs.{row_in};
 ghost use Rattle.blink_live.specs.Handles.{IsPassOf, IsSameBesideSeen, KnowsItsKeys, keys_of, share_of, IsChangedBy};
 ghost use Rattle.blink_live.specs.Seats.{HasSameNumber, IsPassSeat, ReadsLeaf};
 ghost use Rattle.blink_live.specs.Views.{CanBegin, SameBesideReads, for_call, KnowsItsOwn, known_of};
@@ -192,7 +193,7 @@ impl Live {
     }
 
     // Brings a find to the leaf of its key, which the seat still reads afterwards. It returns the pointer stored for the key, and
-    // the leaf's row. Of the operation it has only the page that comes next; its machine is in the seat's view, for the proofs.
+    // the leaf's page word. Of the operation it has only the page that comes next; its machine is in the seat's view, for the proofs.
     // With a trail the search in each page begins where the trail says, if that is right.
     pub(crate) fn come_to_leaf(
         &self,
@@ -204,7 +205,7 @@ impl Live {
         requires idle { seat.old.me.0.operation ≡ None }
         requires can_begin { CanBegin seat.old.me.0 (Find key) }
         ensures kept { result.0 ≡ known_of seat.new.me.0 key }
-        ensures row { IsRowNumber self.now.counts result.1 }
+        ensures row { IsRowNumber self.now.counts (row_in result.1) }
         ensures leaf { ReadsLeaf key result.1 seat.new.me }
         ensures own { KnowsItsOwn seat.new.me.0 }
         ensures saw { IsPrefix seat.old.me.0.seen seat.new.me.0.seen }
@@ -222,7 +223,7 @@ impl Live {
                     number = child;
                     level -= 1;
                 }
-                (Way::Here, kept, row) => return (kept, row),
+                (Way::Here, kept, word) => return (kept, word),
             }
         }
     }

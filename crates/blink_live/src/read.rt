@@ -3,15 +3,15 @@
 //! operation's key leads. Not even the page's level is among them, since a child is one level below its parent. Of a page that
 //! the operation has latched the seat loads the words up to the last entry. Of the prime block it loads the words up to the
 //! leftmost page of the top level.
-ghost use Rattle.std.specs.Prelude.{◌≡◌, None, ℕ, ◌+◌, ◌*◌, ◌<◌, ◌≤◌, Some, List, Option, slice_get, slice_index, ◌⊎◌, length};
+ghost use Rattle.std.specs.Prelude.{◌≡◌, None, ℕ, ◌+◌, ◌*◌, ◌<◌, ◌≤◌, Some, List, Option, slice_get, slice_index, ◌⊎◌, IfNone, IfSome, length};
 ghost use Rattle.std.specs.Bool.{OnTrue, OnFalse};
 ghost use Rattle.blink_batch.specs.{FitsWords, key_of};
 ghost use Rattle.blink_page.specs.{place_of, value_at, PlainPage, IsRising, IsLawfulPage};
 ghost use Rattle.blink_page.specs.declared.limits.TheConstants.{MAX_FAN};
 ghost use Rattle.blink_rows.specs.declared.limits.TheConstants.{ROW_WORDS};
-ghost use Rattle.blink_rows.specs.{IsPrimeRow, page_words};
+ghost use Rattle.blink_rows.specs.{IsPrimeRow, page_words, row_in};
 ghost use Rattle.blink_machine.specs.{PlainMachine, fresh, NeedsPage, NeedsPrime, SeesPrime};
-ghost use Rattle.blink_live.specs.Seats.{BeginsAt, HasRead, HasSameNumber, IsAtLeaf, IsAtPage, IsPassSeat, IsSameSeat, ReadsPage, ReadsWay, TellsWayFor, ReadsPrime};
+ghost use Rattle.blink_live.specs.Seats.{BeginsAt, HasRead, HasSameNumber, IsAtLeaf, IsAtPage, IsPassSeat, IsSaid, IsSameSeat, ReadsPage, ReadsVersion, ReadsWay, TellsWayFor, ReadsPrime};
 ghost use Rattle.blink_live.specs.Views.{CanBegin, IsAnnounced, for_call, known_of};
 ghost use Rattle.blink_live.specs.Words.{AreNumbersIn, AreRowsIn, IsRowNumber, IsSameOutside, row_start, word_count};
 ghost use Rattle.blink_live.specs.AtomicSteps.{Begins, LoadsPage, LoadsPrime};
@@ -24,8 +24,8 @@ use atomic_table::Seat;
 use blink_batch::Op;
 use blink_machine::{Machine, State};
 use blink_page::{Page, Way};
-use blink_rows::layout::{COUNT, FLOOR, HAS_FLOOR, HIGH_KEY, LEVEL, RIGHT_LINK};
-use blink_rows::{HEAD_WORDS, ROW_WORDS, row_in, row_prime};
+use blink_rows::layout::{COUNT, ENTRY_WORDS, FLOOR, HAS_FLOOR, HIGH_KEY, LEVEL, RIGHT_LINK};
+use blink_rows::{HEAD_WORDS, ROW_WORDS, Record, records_in, row_in, row_prime};
 use std::marker::Brand;
 
 impl Live {
@@ -81,7 +81,7 @@ impl Live {
     }
 
     // Reads the page that a descending operation needs next, of this number and level. It returns where the key leads from there;
-    // if the page is the key's leaf, the pointer stored for the key; and the page's row. `hint` is where the search in the page
+    // if the page is the key's leaf, the pointer stored for the key; and the page's word. `hint` is where the search in the page
     // may begin; any hint gives the same answer.
     pub(crate) fn read_page(
         &self,
@@ -95,14 +95,47 @@ impl Live {
         requires at { IsAtPage seat.old.me key number level }
         requires in_range { (1 ≤ number) × (number < self.now.counts.numbers) }
         ensures same { HasSameNumber seat.old seat.new }
-        ensures row { IsRowNumber self.now.counts result.2 }
+        ensures row { IsRowNumber self.now.counts (row_in result.2) }
         ensures way { (at : IsAtPage seat.old.me key number level)
             → ReadsWay at.machine key number result.2 seat.old.me result.0 result.1 seat.new.me }
     {
         let word = self.table.shared.load::<LoadPage>(seat, number as usize);
-        let row = row_in(word);
-        let (way, kept) = self.way_from(seat, row, level, key, hint);
-        (way, kept, row)
+        if let Some(said) = self.newest(seat, word, key) {
+            return (Way::Here, said, word);
+        }
+        let (way, kept) = self.way_from(seat, row_in(word), level, key, hint);
+        (way, kept, word)
+    }
+
+    // The pointer that the key has by the newest record of it, in the version that the seat reads; `Some(None)` if that record removed
+    // the key, and `None` if no record is of the key.
+    fn newest(&self, seat: &mut Seat<u8, View>, word: u64, key: u64) -> Option<Option<u64>>
+        requires seat { IsPassSeat self.now seat.old.table_id seat.old.me }
+        requires row { IsRowNumber self.now.counts (row_in word) }
+        requires page { (page : PlainPage) × ReadsVersion seat.old.me word page }
+        ensures same { IsSameSeat seat.old seat.new }
+        ensures said { IfSome result (λ said. (page : PlainPage) → ReadsVersion seat.old.me word page
+            → IsSaid key page said) }
+        ensures silent { IfNone result ((page : PlainPage) → (is : ReadsVersion seat.old.me word page)
+            → value_at key page.entries ≡ value_at key is.base.entries) }
+    {
+        let records = records_in(word);
+        if records.count == 0 {
+            return None;
+        }
+        let start = self.row_place(row_in(word));
+        let base = self.load_word(seat, start, COUNT) as usize;
+        let mut left = records.count;
+        while left > 0 {
+            left -= 1;
+            let at = HEAD_WORDS + ENTRY_WORDS * (base + usize::from(left));
+            if self.load_word(seat, start, at) == key {
+                let pointer = self.load_word(seat, start, at + 1);
+                let kind = records.kind(left);
+                return Some(Record { kind, key, pointer }.pointer_after());
+            }
+        }
+        None
     }
 
     // Where the key leads from the page of this level whose row the seat reads. If that page is the key's leaf, also the pointer
@@ -216,6 +249,11 @@ impl Live {
             → seat.old.me.0.reads ≡ Some (row, content)
             → place < length content
             → result ≡ slice_index content place }
+        ensures behind { (row : ℕ) (content : List ℕ) (i : ℕ)
+            → start ≡ row_start self.now.counts row
+            → seat.old.me.0.reads ≡ Some (row, content)
+            → place ≡ length content + i → i < length seat.old.me.0.behind
+            → result ≡ slice_index seat.old.me.0.behind i }
     {
         // Called for the proof: a place in the table is a `usize`.
         let _count = self.table.word_count();
@@ -231,15 +269,14 @@ impl Live {
         requires in_range { (1 ≤ number) × (number < self.now.counts.numbers) }
         requires announced { IsAnnounced seat.old.me.0 }
         ensures same { HasSameNumber seat.old seat.new }
-        ensures read { (row : ℕ) × LoadsPage machine.old number seat.old.me row machine.new seat.new.me }
+        ensures read { (word : ℕ) × LoadsPage machine.old number seat.old.me word machine.new seat.new.me }
     {
-        let row = self.load_latched(seat, number);
-        let page = self.page_in_row(seat, row);
+        let word = self.load_latched(seat, number);
+        let page = self.page_in_row(seat, word);
         machine.saw_own_page(page);
     }
 
-    // The step of `read_latched`, for any machine that the view's operation is: the load of the page word. It returns the row that
-    // the word names.
+    // The step of `read_latched`, for any machine that the view's operation is: the load of the page word.
     pub(crate) fn load_latched(&self, seat: &mut Seat<u8, View>, number: u32) -> u64
         requires seat { IsPassSeat self.now seat.old.table_id seat.old.me }
         requires at { (m : PlainMachine) × (seat.old.me.0.operation ≡ Some m) × FitsWords m.op
@@ -250,11 +287,37 @@ impl Live {
         ensures read { (m : PlainMachine) → seat.old.me.0.operation ≡ Some m → NeedsPage m number
             → (machine : PlainMachine) × LoadsPage m number seat.old.me result machine seat.new.me }
     {
-        row_in(self.table.shared.load::<LoadPage>(seat, number as usize))
+        self.table.shared.load::<LoadPage>(seat, number as usize)
     }
 
-    // The page whose row the seat reads. Its words aren't tested, since they are a lawful page's.
-    pub(crate) fn page_in_row(&self, seat: &mut Seat<u8, View>, row: u64) -> Page
+    // The page that the seat reads: the base that its row begins with, as the records behind the base change it.
+    pub(crate) fn page_in_row(&self, seat: &mut Seat<u8, View>, word: u64) -> Page
+        requires seat { IsPassSeat self.now seat.old.table_id seat.old.me }
+        requires row { IsRowNumber self.now.counts (row_in word) }
+        requires page { (page : PlainPage) × ReadsVersion seat.old.me word page }
+        ensures same { IsSameSeat seat.old seat.new }
+        ensures page { (page : PlainPage) → ReadsVersion seat.old.me word page → result ≡ page }
+    {
+        let row = row_in(word);
+        let records = records_in(word);
+        let mut page = self.base_in_row(seat, row);
+        if records.count == 0 {
+            return page;
+        }
+        let start = self.row_place(row);
+        let base = page.items.len();
+        for older in 0..records.count {
+            let at = HEAD_WORDS + ENTRY_WORDS * (base + usize::from(older));
+            let key = self.load_word(seat, start, at);
+            let pointer = self.load_word(seat, start, at + 1);
+            let kind = records.kind(older);
+            Record { kind, key, pointer }.apply(&mut page);
+        }
+        page
+    }
+
+    // The page that stands at the begin of the row that the seat reads. Its words aren't tested, since they are a lawful page's.
+    fn base_in_row(&self, seat: &mut Seat<u8, View>, row: u64) -> Page
         requires seat { IsPassSeat self.now seat.old.table_id seat.old.me }
         requires row { IsRowNumber self.now.counts row }
         requires page { (page : PlainPage) × ReadsPage seat.old.me row page }

@@ -6,13 +6,15 @@
 //! has been split since; then the scan descends again. The load of the leaf's page word tells the seat the state of each of the leaf's
 //! keys, and nobody stores to the row that it names while the scan reads there. So the entries of one leaf are those of one time;
 //! those of the leaf to the right are of a later one.
-ghost use Rattle.std.specs.Prelude.{◌≡◌, ◌+◌, ◌<◌, ◌≤◌, List, IfSome, length, take, drop};
+ghost use Rattle.std.specs.Prelude.{◌≡◌, ◌+◌, ◌<◌, ◌≤◌, ℕ, Option, List, IfSome, length, take, drop};
 ghost use Rattle.blink_batch.specs.declared.Entry.{Entry};
+ghost use Rattle.blink_page.specs.{PlainPage};
+ghost use Rattle.blink_rows.specs.{row_in};
 ghost use Rattle.blink_live.specs.Along.{GoesAlong, IsNotedLeaf};
 ghost use Rattle.blink_live.specs.Finding.{HasSearched, IsIdle};
 ghost use Rattle.blink_live.specs.Handles.{IsPassOf, IsSameBesideSeen, KnowsItsKeys, keys_of, opening_of, seen_of, share_of};
 ghost use Rattle.blink_live.specs.Scanning.{HasScanned, IsCopied, IsFilled, IsReport, ReportLaw, SaysOfKeys, StoppedFull, stop_of};
-ghost use Rattle.blink_live.specs.Seats.{HasSameNumber, IsPassSeat, IsSameSeat, ReadsLeaf};
+ghost use Rattle.blink_live.specs.Seats.{HasSameNumber, HasStates, IsPassSeat, IsSameSeat, ReadsLeaf, ReadsPage};
 ghost use Rattle.blink_live.specs.Views.{known_of};
 ghost use Rattle.blink_live.specs.Words.{IsRowNumber};
 
@@ -22,9 +24,9 @@ use crate::rule::GoAlong;
 use crate::view::View;
 use atomic_table::Seat;
 use blink_batch::Entry;
-use blink_page::MAX_FAN;
+use blink_page::{MAX_FAN, Page};
 use blink_rows::layout::{COUNT, HIGH_KEY, RIGHT_LINK};
-use blink_rows::{HEAD_WORDS, row_in};
+use blink_rows::{HEAD_WORDS, records_in, row_in};
 
 /// How far a scan came.
 #[derive(Clone, Copy, Debug, PartialEq, Eq)]
@@ -133,12 +135,12 @@ impl Live {
         ensures further { IfSome result.0.next (λ next. (from < next) × (next ≤ hi)) }
         ensures right { IfSome result.1 (IsNotedLeaf self.now.counts seat.new.me.0.look) }
     {
-        let (row, right) = self.come_along(seat, from, alone, link);
-        (self.copy_leaf(seat, row, from, hi, into), right)
+        let (word, right) = self.come_along(seat, from, alone, link);
+        (self.copy_leaf(seat, word, from, hi, into), right)
     }
 
-    // Brings the seat to the leaf of the key: by the link, if that leads there; else by a descent. It returns the leaf's row, and the
-    // leaf to the right, if there is one and the seat has noted it.
+    // Brings the seat to the leaf of the key: by the link, if that leads there; else by a descent. It returns the leaf's page word,
+    // and the leaf to the right, if there is one and the seat has noted it.
     fn come_along(
         &self,
         seat: &mut Seat<u8, View>,
@@ -151,13 +153,13 @@ impl Live {
         requires link { IfSome link (IsNotedLeaf self.now.counts seat.old.me.0.look) }
         ensures same_table { HasSameNumber seat.old seat.new }
         ensures searched { HasSearched seat.old.me seat.new.me }
-        ensures row { IsRowNumber self.now.counts result.0 }
+        ensures row { IsRowNumber self.now.counts (row_in result.0) }
         ensures leaf { ReadsLeaf key result.0 seat.new.me }
         ensures right { IfSome result.1 (IsNotedLeaf self.now.counts seat.new.me.0.look) }
     {
         if alone {
-            let (_, row) = self.come_to_leaf(seat, key, None);
-            return (row, None);
+            let (_, word) = self.come_to_leaf(seat, key, None);
+            return (word, None);
         }
         let Some(number) = link else {
             return self.come_down(seat, key);
@@ -174,44 +176,45 @@ impl Live {
         requires idle { IsIdle seat.old.me.0 }
         ensures same_table { HasSameNumber seat.old seat.new }
         ensures searched { HasSearched seat.old.me seat.new.me }
-        ensures row { IsRowNumber self.now.counts result.0 }
+        ensures row { IsRowNumber self.now.counts (row_in result.0) }
         ensures leaf { ReadsLeaf key result.0 seat.new.me }
         ensures right { IfSome result.1 (IsNotedLeaf self.now.counts seat.new.me.0.look) }
     {
-        let (leaf, row) = self.come_to_noted(seat, key);
+        let (leaf, word) = self.come_to_noted(seat, key);
         if leaf.word == 0 {
-            return (row, None);
+            return (word, None);
         }
         if let Some(found) = self.follow(seat, key, leaf.number) {
             return found;
         }
-        let (_, row) = self.come_to_leaf(seat, key, None);
-        (row, None)
+        let (_, word) = self.come_to_leaf(seat, key, None);
+        (word, None)
     }
 
-    // Reads the leaf of this number, which the seat has noted. If the key belongs there, it returns the leaf's row and the leaf to the
-    // right, if there is one.
+    // Reads the leaf of this number, which the seat has noted. If the key belongs there, it returns the leaf's page word and the leaf to
+    // the right, if there is one.
     fn follow(&self, seat: &mut Seat<u8, View>, key: u64, number: u32) -> Option<(u64, Option<u32>)>
         requires seat { IsPassSeat self.now seat.old.table_id seat.old.me }
         requires idle { IsIdle seat.old.me.0 }
         requires leaf { IsNotedLeaf self.now.counts seat.old.me.0.look number }
         ensures same_table { HasSameNumber seat.old seat.new }
         ensures searched { HasSearched seat.old.me seat.new.me }
-        ensures row { IfSome result (λ found. IsRowNumber self.now.counts found.0) }
+        ensures row { IfSome result (λ found. IsRowNumber self.now.counts (row_in found.0)) }
         ensures leaf { IfSome result (λ found. ReadsLeaf key found.0 seat.new.me) }
         ensures right { IfSome result (λ found.
             IfSome found.1 (IsNotedLeaf self.now.counts seat.new.me.0.look)) }
     {
-        let row = self.go_along(seat, number);
+        let word = self.go_along(seat, number);
+        let row = row_in(word);
         if !self.has_key(seat, row, key) {
             return None;
         }
         let start = self.row_place(row);
         let right = link_of(self.load_word(seat, start, RIGHT_LINK));
-        Some((row, right))
+        Some((word, right))
     }
 
-    // Loads the page word of a leaf that the seat has noted, and returns the row that it names.
+    // Loads the page word of a leaf that the seat has noted.
     fn go_along(&self, seat: &mut Seat<u8, View>, number: u32) -> u64
         requires seat { IsPassSeat self.now seat.old.table_id seat.old.me }
         requires idle { IsIdle seat.old.me.0 }
@@ -219,11 +222,38 @@ impl Live {
         ensures same_table { HasSameNumber seat.old seat.new }
         ensures along { GoesAlong seat.old.me result seat.new.me }
     {
-        row_in(self.table.shared.load::<GoAlong>(seat, number as usize))
+        self.table.shared.load::<GoAlong>(seat, number as usize)
     }
 
     // Copies entries of the leaf that the seat reads: those from `from` on, up to `hi`, and as many as there are places.
     pub(crate) fn copy_leaf(
+        &self,
+        seat: &mut Seat<u8, View>,
+        word: u64,
+        from: u64,
+        hi: u64,
+        into: &mut [Entry],
+    ) -> Scanned
+        requires seat { IsPassSeat self.now seat.old.table_id seat.old.me }
+        requires row { IsRowNumber self.now.counts (row_in word) }
+        requires leaf { ReadsLeaf from word seat.old.me }
+        requires range { from ≤ hi }
+        requires some_place { 1 ≤ length into.old }
+        ensures same { IsSameSeat seat.old seat.new }
+        ensures copied { (entries : List Entry) × IsFilled entries into.old into.new
+            × (result.filled ≡ length entries)
+            × IsCopied (known_of seat.old.me.0) from (stop_of hi result.next) entries }
+        ensures further { IfSome result.next (λ next. (from < next) × (next ≤ hi)) }
+    {
+        if records_in(word).count == 0 {
+            return self.copy_row(seat, row_in(word), from, hi, into);
+        }
+        let page = self.page_in_row(seat, word);
+        copy_page(&page, from, hi, into)
+    }
+
+    // The same of a leaf that has no records.
+    fn copy_row(
         &self,
         seat: &mut Seat<u8, View>,
         row: u64,
@@ -233,7 +263,8 @@ impl Live {
     ) -> Scanned
         requires seat { IsPassSeat self.now seat.old.table_id seat.old.me }
         requires row { IsRowNumber self.now.counts row }
-        requires leaf { ReadsLeaf from row seat.old.me }
+        requires leaf { (leaf : PlainPage) × ReadsPage seat.old.me row leaf
+            × HasStates (known_of seat.old.me.0) from leaf }
         requires range { from ≤ hi }
         requires some_place { 1 ≤ length into.old }
         ensures same { IsSameSeat seat.old seat.new }
@@ -267,6 +298,41 @@ impl Live {
         let next = if high < hi { Some(high + 1) } else { None };
         Scanned { filled, next }
     }
+}
+
+// Copies entries of a page in the same way.
+fn copy_page(page: &Page, from: u64, hi: u64, into: &mut [Entry]) -> Scanned
+    requires reaches { from ≤ page.now.high }
+    requires range { from ≤ hi }
+    requires some_place { 1 ≤ length into.old }
+    ensures copied { (known : ℕ → Option ℕ) → HasStates known from page.now
+        → (entries : List Entry) × IsFilled entries into.old into.new
+        × (result.filled ≡ length entries)
+        × IsCopied known from (stop_of hi result.next) entries }
+    ensures further { IfSome result.next (λ next. (from < next) × (next ≤ hi)) }
+{
+    let mut filled = 0;
+    for &(key, pointer) in page.items.iter() {
+        if key > hi {
+            return Scanned { filled, next: None };
+        }
+        if key >= from {
+            if filled == into.len() {
+                return Scanned {
+                    filled,
+                    next: Some(key),
+                };
+            }
+            into[filled] = Entry { key, pointer };
+            filled += 1;
+        }
+    }
+    let next = if page.high < hi {
+        Some(page.high + 1)
+    } else {
+        None
+    };
+    Scanned { filled, next }
 }
 
 /// States what a report tells of each key, whatever the fronts are.

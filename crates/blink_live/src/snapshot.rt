@@ -151,14 +151,14 @@ impl Live {
         ensures more { NotesMore seat.old.me.0.look seat.new.me.0.look }
         ensures high { key ≤ result.1 }
     {
-        let (leaf, row) = self.come_to_noted(seat, key);
-        let start = self.row_place(row);
+        let (leaf, word) = self.come_to_noted(seat, key);
+        let start = self.row_place(row_in(word));
         let high = self.load_word(seat, start, HIGH_KEY);
         (leaf, high)
     }
 
     // Brings a find to the leaf of its key, which the seat still reads afterwards, and notes it there. It returns the leaf as it was
-    // noted, and the row that the seat reads.
+    // noted, and the page word whose row the seat reads.
     pub(crate) fn come_to_noted(&self, seat: &mut Seat<u8, View>, key: u64) -> (NotedLeaf, u64)
         requires seat { IsPassSeat self.now seat.old.table_id seat.old.me }
         requires idle { IsIdle seat.old.me.0 }
@@ -166,7 +166,7 @@ impl Live {
         ensures searched { HasSearched seat.old.me seat.new.me }
         ensures noted { IsNotedIn self.now.counts seat.new.me.0.look result.0 }
         ensures more { NotesMore seat.old.me.0.look seat.new.me.0.look }
-        ensures row { IsRowNumber self.now.counts result.1 }
+        ensures row { IsRowNumber self.now.counts (row_in result.1) }
         ensures leaf { ReadsLeaf key result.1 seat.new.me }
     {
         let (mut number, mut level) = self.root(seat, Op::Find(key));
@@ -178,13 +178,13 @@ impl Live {
                     number = child;
                     level -= 1;
                 }
-                (Way::Here, _, row) => {
+                (Way::Here, _, word) => {
                     return (
                         NotedLeaf {
                             number,
                             word: noted,
                         },
-                        row,
+                        word,
                     );
                 }
             }
@@ -243,7 +243,7 @@ impl Live {
                 return Ok(None);
             }
             let mut copy = [Entry { key: 0, pointer: 0 }; MAX_FAN];
-            let run = self.copy_leaf(seat, row_in(leaf.word), from, hi, &mut copy);
+            let run = self.copy_leaf(seat, leaf.word, from, hi, &mut copy);
             entries.extend_from_slice(&copy[..run.filled])?;
             match run.next {
                 Some(next) => from = next,
@@ -262,7 +262,7 @@ impl Live {
         ensures same_table { HasSameNumber seat.old seat.new }
         ensures same { IsSameBesideRow seat.old.me seat.new.me }
         ensures row { IsTrue result → IsRowNumber self.now.counts (row_in leaf.word) }
-        ensures leaf { IsTrue result → ReadsLeaf key (row_in leaf.word) seat.new.me }
+        ensures leaf { IsTrue result → ReadsLeaf key leaf.word seat.new.me }
     {
         let word = self.look_again(seat, leaf.number);
         word != 0 && word == leaf.word && self.has_key(seat, row_in(word), key)

@@ -1,6 +1,7 @@
 //! The straight path of an operation that changes the tree. It goes down to its leaf, latches it, and changes it, as an operation
 //! with a machine does, and takes the same steps. But no value of its machine is made: the machine is in the seat's view, for the
-//! proofs. Only where the leaf is full, or the operation has to wait, a machine is made, and the operation goes on with that.
+//! proofs. Only where the leaf is full or has records, or the operation has to wait, a machine is made, and the operation goes on with
+//! that.
 ghost use Rattle.std.specs.Prelude.{◌≡◌, ◌≢◌, ◌↔◌, ℕ, ◌+◌, ◌<◌, ◌≤◌, None, Some, IfErr, IfOk, IfSome, IfNone, IsTrue, length};
 ghost use Rattle.atomic_table.specs.declared.Seat.{Seat};
 ghost use Rattle.blink_batch.specs.{FitsWords, answer_at, key_of};
@@ -20,7 +21,7 @@ ghost use Rattle.blink_live.specs.declared.view.View.{View};
 ghost use Rattle.blink_live.specs.Pendings.{IsWaiting};
 ghost use Rattle.blink_live.specs.Seats.{HasRead, HasSameNumber, IsAtLeaf, IsPassSeat, IsSameSeat, ReadsPage};
 ghost use Rattle.blink_live.specs.Shelves.{IsShelved};
-ghost use Rattle.blink_live.specs.Straight.{HasCome, HasMet, HasTurned, IsEditOf, IsSpot, IsToSplit, IsToWrite, holding, leaving, page_at, splice_of, wanting};
+ghost use Rattle.blink_live.specs.Straight.{HasCome, HasMet, HasTurned, IsEditOf, IsSpot, IsToWrite, NeedsWhole, holding, leaving, page_at, splice_of, wanting};
 ghost use Rattle.blink_live.specs.Updating.{HasRowsFor, IsUnderWay, room_in};
 ghost use Rattle.blink_live.specs.Views.{CanBegin, MayChange, for_call, known_of};
 ghost use Rattle.blink_live.specs.Words.{AreNumbersIn, AreRowsIn, IsRowNumber, row_start, word_count};
@@ -36,7 +37,7 @@ use blink_batch::{Answer, Op};
 use blink_machine::Machine;
 use blink_page::Way;
 use blink_rows::layout::{COUNT, ENTRY_WORDS, HIGH_KEY, RIGHT_LINK};
-use blink_rows::{HEAD_WORDS, ROW_WORDS};
+use blink_rows::{HEAD_WORDS, ROW_WORDS, records_in, row_in};
 use std::hint;
 
 impl Live {
@@ -67,7 +68,9 @@ impl Live {
             match self.change_leaf(seat, room, op, &mut descent) {
                 Turned::Ended(answer) => return Changed::Ended(answer),
                 Turned::Moved => {}
-                Turned::Full(row) => return self.split_leaf(seat, room, op, &descent, row, left),
+                Turned::Whole(word) => {
+                    return self.go_on_whole(seat, room, op, &descent, word, left);
+                }
                 Turned::Waits => {
                     left = left.saturating_sub(1);
                     if left == 0 {
@@ -160,7 +163,7 @@ impl Live {
                 self.free_latch(seat, descent.leaf);
                 Turned::Ended(op.answer(kept))
             }
-            Edit::Full(row) => Turned::Full(row),
+            Edit::Whole(word) => Turned::Whole(word),
             Edit::Write(spot, splice) => {
                 self.put_leaf(seat, room, op, descent, &spot, &splice);
                 self.free_latch(seat, descent.leaf);
@@ -191,8 +194,11 @@ impl Live {
             → IsUnderWay self.now op first seat.old (holding self.now.fan op descent.now) _room.now
             → HasMet self.now op descent.now first seat.new _room.now result }
     {
-        let row = self.load_latched(seat, descent.leaf);
-        match self.spot_in(seat, row, op.key()) {
+        let word = self.load_latched(seat, descent.leaf);
+        if records_in(word).count > 0 {
+            return Edit::Whole(word);
+        }
+        match self.spot_in(seat, row_in(word), op.key()) {
             Ok(spot) => edit_of(op, self.fan, spot),
             Err(right) => Edit::Right(right),
         }
@@ -289,27 +295,27 @@ impl Live {
         Self::keep_out(seat, room, out);
     }
 
-    // Splits the leaf whose latch the operation holds, and goes on as an operation with a machine does.
+    // Reads the whole leaf whose latch the operation holds, and goes on as an operation with a machine does.
     #[cold]
     #[inline(never)]
-    fn split_leaf(
+    fn go_on_whole(
         &self,
         seat: &mut Seat<u8, View>,
         room: &mut Room,
         op: Op,
         descent: &Descent,
-        row: u64,
+        word: u64,
         tries: u32,
     ) -> Changed
-        requires splits { (first : Seat ℕ View)
-            × IsToSplit self.now op descent.now first seat.old room.old row }
+        requires whole { (first : Seat ℕ View)
+            × NeedsWhole self.now op descent.now first seat.old room.old word }
         ensures { (first : Seat ℕ View)
-            → IsToSplit self.now op descent.now first seat.old room.old row
+            → NeedsWhole self.now op descent.now first seat.old room.old word
             → HasCome self.now op first seat.new room.new result }
     {
         let mut machine = self.machine_at(op, descent);
         machine.done(0);
-        machine.saw_own_page(self.page_in_row(seat, row));
+        machine.saw_own_page(self.page_in_row(seat, word));
         match self.go_on(seat, &mut machine, room, tries) {
             Some(answer) => Changed::Ended(answer),
             None => Changed::Rests(machine.rest()),
@@ -436,7 +442,7 @@ fn insertion_of(fan: u8, spot: Spot, key: u64, pointer: u64) -> Edit
         return Edit::Answers(spot.kept);
     }
     if spot.count >= usize::from(fan) {
-        return Edit::Full(spot.row);
+        return Edit::Whole(spot.row);
     }
     Edit::Write(
         spot,

@@ -121,8 +121,10 @@ pub struct View {
     pub operation: Option<Machine>,
     /// A bound of the pages that the operation's descent still reads.
     pub descent_bound: u64,
-    /// The row that the last loaded page word named, and the row's words.
+    /// The row that the last loaded page word named, with the words of the page or prime block that stands at its begin; and the
+    /// words of the records behind these.
     pub reads: Option<(u64, LinkedList<u64>)>,
+    pub behind: LinkedList<u64>,
     /// The changes of all keys that the seat has seen, and those of the note that it holds.
     pub seen: LinkedList<Change>,
     pub told: LinkedList<Change>,

@@ -17,7 +17,7 @@ use Rattle.blink_machine.specs.declared.machine.State.TheVariants.{Change, Leave
 use Rattle.blink_machine.specs.{Expects, PlainMachine, SeesUnderLatch, key_of_job, target}
 use Rattle.blink_machine.specs.Machine.{entry_of, value_of_job}
 use Rattle.blink_machine.specs.Table.{Brings, IsChange, IsFullFor, Removes, Swaps}
-use Rattle.blink_live.specs.declared.descent.Edit.TheVariants.{Answers, Full, Write}
+use Rattle.blink_live.specs.declared.descent.Edit.TheVariants.{Answers, Whole, Write}
 use Rattle.blink_live.specs.declared.descent.Spot.{Spot}
 use Rattle.blink_live.specs.Straight.{IsEditOf, IsSplice, IsSpot, splice_of}
 
@@ -120,7 +120,7 @@ adds fan key pointer spot is_fan none room m number page same_op same_fan leaf r
     (ap (λ (e : ℕ × ℕ). with_entries page (entries_with page e)) (sym (its_entry m key pointer same_op leaf))) in
     (after, (refl, (next, splices_added key page spot lawful at fan pointer fewer (omega (arith, fans)) level, refl)), SeesUnderLatch.is_to_change next spot.kept below change refl)
 
-pub splits : (fan key pointer : ℕ) (spot : Spot) → spot.kept ≡ None → fan ≤ spot.count → IsEditOf (Insert key pointer) fan spot (Full spot.row)
+pub splits : (fan key pointer : ℕ) (spot : Spot) → spot.kept ≡ None → fan ≤ spot.count → IsEditOf (Insert key pointer) fan spot (Whole spot.row)
 splits fan key pointer spot none no_room m number page same_op same_fan leaf readable level lawful at =
     let count = at.count in
     let most = readable.at_most_fan in

@@ -4,13 +4,15 @@ use Rattle.atomic_table.specs.declared.Seat.{Seat}
 use Rattle.blink_batch.specs.{key_of}
 use Rattle.blink_batch.specs.declared.Op.{Op}
 use Rattle.blink_page.specs.{PlainPage}
-use Rattle.blink_rows.specs.{PlainCounts}
+use Rattle.blink_rows.specs.{PlainCounts, records_in, row_in}
+use Rattle.blink_rows.proofs.Offered.{row_of_row}
+use Rattle.blink_live.proofs.table.VersionsOfPages.{row_is_below}
 use Rattle.blink_machine.specs.declared.machine.Next.TheVariants.{MoveRight}
 use Rattle.blink_machine.specs.declared.machine.State.TheVariants.{Change, Leave, SplitNew}
 use Rattle.blink_machine.specs.{NeedsWrite, PlainMachine, SeesPage, SeesUnderLatch, page_out}
 use Rattle.blink_live.specs.declared.descent.Descent.{Descent}
 use Rattle.blink_live.specs.declared.descent.Edit.{Edit}
-use Rattle.blink_live.specs.declared.descent.Edit.TheVariants.{Answers, Full, Right, Write}
+use Rattle.blink_live.specs.declared.descent.Edit.TheVariants.{Answers, Right, Whole, Write}
 use Rattle.blink_live.specs.declared.descent.Splice.{Splice}
 use Rattle.blink_live.specs.declared.descent.Spot.{Spot}
 use Rattle.blink_live.specs.declared.live.Live.{Live}
@@ -21,14 +23,15 @@ use Rattle.blink_live.specs.declared.view.Stock.{Stock}
 use Rattle.blink_live.specs.declared.view.View.{View}
 use Rattle.blink_live.specs.AtomicSteps.{LoadsPage, PublishesPage}
 use Rattle.blink_live.specs.ComingBack.{puts_back}
-use Rattle.blink_live.specs.Seats.{HasSameNumber, IsPassSeat, IsSameSeat, ReadsPage}
+use Rattle.blink_live.specs.Seats.{HasSameNumber, IsPassSeat, IsSameSeat, ReadsPage, ReadsVersion}
 use Rattle.blink_live.specs.Shelves.{IsLent, IsSameBesideShelf, IsShelved, IsShelvedBut, free_in, stock_of}
-use Rattle.blink_live.specs.Straight.{HasMet, IsEditOf, IsSplice, IsSpot, IsToSplit, IsToWrite, Makes, at_leaf, holding, leaving}
+use Rattle.blink_live.specs.Straight.{HasMet, IsEditOf, IsSplice, IsSpot, IsToWrite, Makes, NeedsWhole, at_leaf, holding, leaving}
 use Rattle.blink_live.specs.Updating.{CanWrite, HasLeft, IsUnderWay, IsUpdating, UsesSpareFirst}
 use Rattle.blink_live.specs.Views.{IsCommon, IsOwned, SeatState, for_call, no_aside, takes_out}
 use Rattle.blink_live.specs.Words.{IsRowNumber}
 use Rattle.blink_live.proofs.changed.CallsWrite.{writes_lent, writes_own}
 use Rattle.blink_live.proofs.changed.UpdatesGoOn as on
+use Rattle.blink_live.proofs.found.VersionsAreRead.{page_alone, version_alone, version_loaded}
 
 -- a load of the row changes nothing
 pub stays : {live : Live} {op : Op} {first seat : Seat ℕ View} {m : PlainMachine} {room : Room} → IsUnderWay live op first seat m room → (next : Seat ℕ View) → IsSameSeat seat next → IsUnderWay live op first next m room
@@ -49,20 +52,37 @@ same_machine {live} {op} {first} {seat} {m} {room} is other same = subst (λ (x 
 
 -- ---- the leaf that it reads under the latch
 
-pub reads_it : {m machine : PlainMachine} {number row : ℕ} {me then : SeatState} → (loads : LoadsPage m number me row machine then) → ReadsPage then row loads.page
-reads_it loads = record { reads = ap (λ (x : SeatState). x.0.reads) loads.is; lawful = loads.lawful }
+-- where it has no records
+pub reads_it : {m machine : PlainMachine} {number word : ℕ} {me then : SeatState} → (loads : LoadsPage m number me word machine then) → (records_in word).count ≡ 0 → ReadsPage then (row_in word) loads.page
+reads_it loads none = page_alone (version_loaded loads) none
 
-module _ (live : Live) (op : Op) (descent : Descent) (first seat loaded next : Seat ℕ View) (room : Room) (row : ℕ) (is : IsUnderWay live op first seat (holding live.fan op descent) room)
-    (same : HasSameNumber seat loaded) (machine : PlainMachine) (loads : LoadsPage (holding live.fan op descent) descent.leaf seat.me row machine loaded.me) where
+module _ (live : Live) (op : Op) (descent : Descent) (first seat loaded next : Seat ℕ View) (room : Room) (word : ℕ) (is : IsUnderWay live op first seat (holding live.fan op descent) room)
+    (same : HasSameNumber seat loaded) (machine : PlainMachine) (loads : LoadsPage (holding live.fan op descent) descent.leaf seat.me word machine loaded.me) where
   pub under_latch : IsUnderWay live op first loaded machine room
-  under_latch = on.after_page is same descent.leaf row loads
+  under_latch = on.after_page is same descent.leaf word loads
 
-  pub row_there : IsRowNumber live.counts row
-  row_there = subst (λ (counts : PlainCounts). IsRowNumber counts row) (ap (λ (p : Plan). p.counts) (on.is_its_seat is).same_plan ∙ sym live.counts_are) loads.row_in_range
+  pub row_there : IsRowNumber live.counts (row_in word)
+  row_there = subst (λ (counts : PlainCounts). IsRowNumber counts (row_in word)) (ap (λ (p : Plan). p.counts) (on.is_its_seat is).same_plan ∙ sym live.counts_are) loads.row_in_range
 
-  module _ (stay : IsSameSeat loaded next) where
-    reads_still : ReadsPage next.me row loads.page
-    reads_still = subst (λ (x : SeatState). ReadsPage x row loads.page) (sym stay.2) (reads_it loads)
+  -- a leaf that has records
+  pub meets_records : HasMet live op descent first loaded room (Whole word)
+  meets_records = record {
+    page = loads.page;
+    after = machine;
+    reads = version_loaded loads;
+    in_range = row_there;
+    readable = loads.readable;
+    only = loads.only;
+    under_way = under_latch;
+  }
+
+  module _ (none : (records_in word).count ≡ 0) (stay : IsSameSeat loaded next) where
+    reads_still : ReadsPage next.me (row_in word) loads.page
+    reads_still = subst (λ (x : SeatState). ReadsPage x (row_in word) loads.page) (sym stay.2) (reads_it loads none)
+
+    -- the row's number is the page word that names it and counts no records
+    version_still : ReadsVersion next.me (row_in word) loads.page
+    version_still = subst (λ (x : SeatState). ReadsVersion x (row_in word) loads.page) (sym stay.2) (version_alone (version_loaded loads) none)
 
     is_machine : (other : PlainMachine) → SeesUnderLatch (holding live.fan op descent) descent.leaf loads.page other → machine ≡ other
     is_machine other sees = sym (loads.only other (SeesPage.under_latch refl sees))
@@ -73,23 +93,24 @@ module _ (live : Live) (op : Op) (descent : Descent) (first seat loaded next : S
     pub meets_right : (right : ℕ) → loads.page.high < key_of op → loads.page.right ≡ Some right → HasMet live op descent first next room (Right right)
     meets_right right above link = now (at_leaf live.fan op descent (Leave descent.leaf (MoveRight right)) None) (SeesUnderLatch.is_above_high_key right above link refl)
 
-    module _ (spot : Spot) (row_is : spot.row ≡ row) (at : IsSpot (key_of op) loads.page spot) (after : PlainMachine) (sees : SeesUnderLatch (holding live.fan op descent) descent.leaf loads.page after) where
+    module _ (spot : Spot) (row_is : spot.row ≡ row_in word) (at : IsSpot (key_of op) loads.page spot) (after : PlainMachine) (sees : SeesUnderLatch (holding live.fan op descent) descent.leaf loads.page after) where
       by_edit : (edit : Edit) → Makes (holding live.fan op descent) descent.leaf spot loads.page edit after → HasMet live op descent first next room edit
       by_edit (Right right) makes = same_machine (now after sees) (at_leaf live.fan op descent (Leave descent.leaf (MoveRight right)) None) makes
       by_edit (Answers kept) makes = same_machine (now after sees) (leaving live.fan op descent kept) makes
-      by_edit (Full full_row) makes =
-          let here : full_row ≡ row = makes.0 ∙ row_is in
+      by_edit (Whole full_row) makes =
+          let here : full_row ≡ row_in word = makes.0 ∙ row_is in
           let then : PlainMachine = at_leaf live.fan op descent (SplitNew descent.leaf loads.page) None in record {
             page = loads.page;
-            reads = subst (λ (r : ℕ). ReadsPage next.me r loads.page) (sym here) reads_still;
-            in_range = subst (IsRowNumber live.counts) (sym here) row_there;
+            after = then;
+            reads = subst (λ (r : ℕ). ReadsVersion next.me r loads.page) (sym here) version_still;
+            in_range = subst (λ (r : ℕ). IsRowNumber live.counts (row_in r)) (sym here) (subst (IsRowNumber live.counts) (sym (row_of_row (row_in word) (row_is_below word))) row_there);
             readable = loads.readable;
             only = λ other its. loads.only other its ∙ (is_machine after sees ∙ makes.1);
             under_way = same_machine (now after sees) then makes.1;
           }
       by_edit (Write its splice) makes =
           let same_spot : its ≡ spot = makes.0 in
-          let here : its.row ≡ row = ap (λ (s : Spot). s.row) same_spot ∙ row_is in
+          let here : its.row ≡ row_in word = ap (λ (s : Spot). s.row) same_spot ∙ row_is in
           let changed : PlainPage = makes.1.0 in
           record {
             page = loads.page;
@@ -102,7 +123,7 @@ module _ (live : Live) (op : Op) (descent : Descent) (first seat loaded next : S
                 (same_machine (now after sees) (at_leaf live.fan op descent (Change descent.leaf changed spot.kept) None) makes.1.2);
           }
 
-    pub meets : (edit : Edit) (spot : Spot) → spot.row ≡ row → IsSpot (key_of op) loads.page spot → IsEditOf op live.fan spot edit → HasMet live op descent first next room edit
+    pub meets : (edit : Edit) (spot : Spot) → spot.row ≡ row_in word → IsSpot (key_of op) loads.page spot → IsEditOf op live.fan spot edit → HasMet live op descent first next room edit
     meets edit spot row_is at edits =
         let made = edits (holding live.fan op descent) descent.leaf loads.page refl refl refl loads.readable loads.readable.has_level loads.lawful at in
         by_edit spot row_is at made.0 made.2 edit made.1
@@ -169,10 +190,10 @@ shelved_lent number out row m room me lent then last is does back =
     ∙ ap (takes_out out) is.stock in
     subst (λ (s : Option Shelf). IsShelvedBut out s last.0) (sym is.same_shelf) (subst IsCommon (sym plan) is.common, stock)
 
--- ---- a leaf that it is to split
+-- ---- a leaf of which it has to see all
 
-pub split_begins : {live : Live} {op : Op} {descent : Descent} {first seat : Seat ℕ View} {room : Room} {row : ℕ} → (splits : IsToSplit live op descent first seat room row) → (next : Seat ℕ View) → IsSameSeat seat next → (held : PlainMachine) (page : PlainPage) (after : PlainMachine)
-    → held ≡ holding live.fan op descent → page ≡ splits.page → SeesPage held descent.leaf page after → IsUnderWay live op first next after room
-split_begins {live} {op} {descent} {first} {seat} {room} {row} splits next same held page after is_held is_page sees =
-    let its : SeesPage (holding live.fan op descent) descent.leaf splits.page after = subst (λ (x : PlainMachine × PlainPage). SeesPage x.0 descent.leaf x.1 after) (λ i. (is_held i, is_page i)) sees in
-    same_machine (stays splits.under_way next same) after (sym (splits.only after its))
+pub goes_on_whole : {live : Live} {op : Op} {descent : Descent} {first seat : Seat ℕ View} {room : Room} {word : ℕ} → (whole : NeedsWhole live op descent first seat room word) → (next : Seat ℕ View) → IsSameSeat seat next → (held : PlainMachine) (page : PlainPage) (after : PlainMachine)
+    → held ≡ holding live.fan op descent → page ≡ whole.page → SeesPage held descent.leaf page after → IsUnderWay live op first next after room
+goes_on_whole {live} {op} {descent} {first} {seat} {room} {word} whole next same held page after is_held is_page sees =
+    let its : SeesPage (holding live.fan op descent) descent.leaf whole.page after = subst (λ (x : PlainMachine × PlainPage). SeesPage x.0 descent.leaf x.1 after) (λ i. (is_held i, is_page i)) sees in
+    same_machine (stays whole.under_way next same) after (sym (whole.only after its))

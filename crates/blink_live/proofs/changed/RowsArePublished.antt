@@ -29,13 +29,13 @@ use Rattle.blink_live.specs.Changes.{put, after, states_of}
 use Rattle.blink_live.specs.Accounts.{AreAccounts}
 use Rattle.blink_live.specs.Reuse.{IsReuseSafe}
 use Rattle.blink_live.specs.Looks.{IsLeafInChain}
-use Rattle.blink_live.specs.Rule.{Owners, IsPublished, PageWordIs, latch_word, HasRows, HasNumbers, HasSpare, IsShare, IsInRole, IsBoundedWay, Knows, IsTableAt, IsTable, Names}
+use Rattle.blink_live.specs.Rule.{Owners, IsPublished, PageWordIs, latch_word, HasRows, HasNumbers, HasSpare, IsShare, IsInRole, IsBoundedWay, Knows, IsTableAt, IsTable, Names, NamesPage}
 use Rattle.blink_live.specs.Views.{IsCommon, IsOwned, span, publishes}
 use Rattle.blink_live.specs.Words.{place_word, word_count, BeginWith, RowBegins}
 use Rattle.blink_live.proofs.changed.ChangesAreTheMaps.{after-append, states_of-append}
 use Rattle.blink_live.proofs.table.PoolStays.{pool_stays}
 use Rattle.blink_live.proofs.table.MapsWithOneChange.{put_here, put_else}
-use Rattle.blink_live.proofs.table.RowsAreNamed.{names_its_row, row_names_itself}
+use Rattle.blink_live.proofs.table.RowsAreNamed.{names_its_page, names_its_row, row_names_itself}
 use Rattle.blink_live.proofs.table.OthersKnowTheSame.{LeavesOthers, RowStays, page_word_still, seat_reads_still}
 use Rattle.blink_live.proofs.table.AccountsStay.{AreBy, accounts_grow}
 use Rattle.blink_live.proofs.table.StoresKeepTable.{row_stays, IsStored, prime_still, store_keeps}
@@ -219,7 +219,8 @@ module _ (plan : Plan) (s : State ℕ View) (tree_state then : TreeState) (h : I
       names_row : (n : ℕ) → 1 ≤ n → n ≡ number → PageWordIs plan new words (slice_index words n) (then.pages n)
       names_row n least same =
           let here = step.page_here (omega (arith, least, same)) in
-          let names : Names plan new words v.call.rows.next (page_words here.0) = subst (Names plan new words v.call.rows.next) here.2 word_names_it in
+          let its_words : RowBegins plan.counts words v.call.rows.next (page_words here.0) = subst (RowBegins plan.counts words v.call.rows.next) here.2 is_published.1 in
+          let names : NamesPage plan new words v.call.rows.next here.0 = names_its_page plan new words v.call.rows.next here.0 h.bounded is_published.0 its_words in
           let word : slice_index words n ≡ v.call.rows.next = ap (slice_index words) same ∙ word_here in
           let is_page : then.pages n ≡ Some here.0 = ap then.pages same ∙ here.1 in
           subst (λ (t : ℕ × Option PlainPage). PageWordIs plan new words t.0 t.1) (λ i. (sym word i, sym is_page i)) names

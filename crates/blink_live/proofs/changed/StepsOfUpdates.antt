@@ -7,7 +7,7 @@ use Rattle.blink_batch.specs.declared.Answer.TheVariants.{Absent, Exists}
 use Rattle.blink_batch.specs.declared.Op.{Op}
 use Rattle.blink_batch.specs.{answer_at, answer_of, key_of, map_at, pointer_of}
 use Rattle.blink_page.specs.{PlainPage, value_at}
-use Rattle.blink_rows.specs.{page_words}
+use Rattle.blink_rows.specs.{page_words, row_in}
 use Rattle.blink_rows.specs.declared.span.Span.{Span}
 use Rattle.blink_machine.specs.declared.machine.Debt.{Debt}
 use Rattle.blink_machine.specs.declared.machine.Job.{Job}
@@ -157,10 +157,10 @@ module _ (m after : PlainMachine) (number : ℕ) (page : PlainPage) (v : View) (
   page_decides past (SeesPage.on_its_way sees) = absurd (on_no_way past sees)
   page_decides past (SeesPage.under_latch held sees) = under_latch sees
 
-pub page_takes : (m after : PlainMachine) (number row : ℕ) (me then : SeatState) → IsPastDescent m.state → LoadsPage m number me row after then → Takes m after me then
-page_takes m after number row me then past loads =
-    let is : then ≡ (reading me.0 after loads.way row (page_words loads.page) loads.seen, me.1) = loads.is in
-    let known : KnowsItsOwn (reading me.0 after loads.way row (page_words loads.page) loads.seen) = subst (λ (x : SeatState). KnowsItsOwn x.0) is loads.knows_own in
+pub page_takes : (m after : PlainMachine) (number word : ℕ) (me then : SeatState) → IsPastDescent m.state → LoadsPage m number me word after then → Takes m after me then
+page_takes m after number word me then past loads =
+    let is : then ≡ (reading me.0 after loads.way (row_in word) (page_words loads.base) loads.behind loads.seen, me.1) = loads.is in
+    let known : KnowsItsOwn (reading me.0 after loads.way (row_in word) (page_words loads.base) loads.behind loads.seen) = subst (λ (x : SeatState). KnowsItsOwn x.0) is loads.knows_own in
     let reads = page_decides m after number loads.page me.0 loads.seen loads.learns.saw (known.state (key_of m.op)) loads.answers past loads.sees in record {
       same = (subst (λ (x : SeatState). SameBesideCall me.0 x.0) (sym is) refl, ap (λ (x : SeatState). x.1) is);
       saw = subst (λ (x : SeatState). IsPrefix me.0.seen x.0.seen) (sym is) loads.learns.saw;

@@ -6,7 +6,6 @@ use Rattle.atomic_table.specs.declared.Seat.{Seat}
 use Rattle.blink_batch.specs.{FitsWords, answer_at, answer_of, key_of, pointer_of}
 use Rattle.blink_batch.specs.declared.Answer.{Answer}
 use Rattle.blink_batch.specs.declared.Op.{Op}
-use Rattle.blink_page.specs.{IsPageNumber}
 use Rattle.blink_rows.specs.{PlainCounts}
 use Rattle.blink_rows.specs.declared.span.Span.{Span}
 use Rattle.blink_machine.specs.{UsesUp, one_if, numbers_left, writes_left, primes_left, latch, unlatch, write_page, write_prime, writes_new_page, PlainMachine, NeedsPage, NeedsLatch, NeedsNew, NeedsWrite, NeedsPrimeWrite, NeedsUnlatch, need_at, goes_on, IsPageWrite, done}
@@ -40,7 +39,7 @@ use Rattle.blink_live.proofs.changed.StepsOfUpdates.{Takes, latch_answers, unlat
 
 same_call_trans : (u v w : View) → SameBesideCall u v → SameBesideCall v w → SameBesideCall u w
 same_call_trans u v w first second =
-    second ∙ ap (λ (x : View). record x { operation = w.operation; descent_bound = w.descent_bound; reads = w.reads; seen = w.seen; share = w.share; call = w.call; stock = w.stock }) first
+    second ∙ ap (λ (x : View). record x { operation = w.operation; descent_bound = w.descent_bound; reads = w.reads; behind = w.behind; seen = w.seen; share = w.share; call = w.call; stock = w.stock }) first
 
 -- it has decided once
 module _ (op : Op) (first now then : View) (m after : PlainMachine) (same : m.op ≡ op) (same_plan : now.plan ≡ first.plan) (same_place : now.place ≡ first.place) (saw : IsPrefix first.seen now.seen) where
@@ -296,12 +295,12 @@ module _ {live : Live} {op : Op} {first seat : Seat ℕ View} {m : PlainMachine}
         (still_left room.shelf begun.0.call seat.me.0.call next.me.0.call m after is.left same_call writes primes numbers)
         (is.room_is.0 ∙ ap (λ (c : Call). c.rows) (sym same_call), is.room_is.1 ∙ ap (λ (c : Call). c.pages) (sym same_call)) refl (shelved_so room.shelf seat.me.0 next.me.0 same_stock.0 same_stock.1 is.shelved)
 
-    pub after_page : (number row : ℕ) → LoadsPage m number seat.me row after next.me → IsUnderWay live op first next after room
-    after_page number row loads =
+    pub after_page : (number word : ℕ) → LoadsPage m number seat.me word after next.me → IsUnderWay live op first next after room
+    after_page number word loads =
         let pages = loads.uses.numbers in
         let writes = loads.uses.page_writes in
         let primes = loads.uses.prime_writes in
-        in_its_room (page_takes m after number row seat.me next.me is.updating.past_descent loads) (ap (λ (x : SeatState). x.0.plan) loads.is, ap (λ (x : SeatState). x.0.stock) loads.is) (ap (λ (x : SeatState). x.0.call) loads.is) (omega (arith, writes)) (omega (arith, primes)) (omega (arith, pages))
+        in_its_room (page_takes m after number word seat.me next.me is.updating.past_descent loads) (ap (λ (x : SeatState). x.0.plan) loads.is, ap (λ (x : SeatState). x.0.stock) loads.is) (ap (λ (x : SeatState). x.0.call) loads.is) (omega (arith, writes)) (omega (arith, primes)) (omega (arith, pages))
 
     pub after_prime : (row : ℕ) → LoadsPrime m seat.me row after next.me → IsUnderWay live op first next after room
     after_prime row loads =

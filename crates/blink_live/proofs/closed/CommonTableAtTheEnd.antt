@@ -1,24 +1,17 @@
 -- The words of a common table whose places are all idle keep a tree at rest.
-use Rattle.std.proofs.Common.{◌≡◌, ℕ, ◌<◌, ◌≤◌, Option, Some, None, List, length, sym, ◌∙◌, subst, ⊎_elim, refl, arith}
-use Rattle.std.specs.Prelude.{Contains, slice_index}
+use Rattle.std.proofs.Common.{◌≡◌, ℕ, ◌<◌, ◌≤◌, Option, Some, None, List, length, sym, ◌∙◌, ⊎_elim, refl, arith}
+use Rattle.std.specs.Prelude.{slice_index}
 use mathlib.Core.Option.{some}
-use mathlib.Core.List.{IsPrefix}
 use lib.ListN.{get_elem?}
-use Rattle.atomic_table.specs.Table.{State, Final, Seen}
-use Rattle.blink_batch.specs.declared.Entry.{Entry}
-use Rattle.blink_batch.specs.{pointer_of}
+use Rattle.atomic_table.specs.Table.{State}
 use Rattle.blink_machine.specs.{PlainMachine}
 use Rattle.blink_machine.specs.TreeState.{TreeState}
-use Rattle.blink_live.specs.declared.view.Account.{Account}
-use Rattle.blink_live.specs.declared.view.Change.{Change}
 use Rattle.blink_live.specs.declared.view.Plan.{Plan}
 use Rattle.blink_live.specs.declared.view.Role.{Role}
 use Rattle.blink_live.specs.declared.view.Role.TheVariants.{Keeper, Pass, Spent}
 use Rattle.blink_live.specs.declared.view.View.{View}
-use Rattle.blink_live.specs.Changes.{after}
-use Rattle.blink_live.specs.Accounts.{AreApart, HaveAuthors, accounts_of, made_at}
 use Rattle.blink_live.specs.Merge.{KeepsTree}
-use Rattle.blink_live.specs.Rule.{HasPlace, IsInRole, Knows, IsTableAt, IsTable}
+use Rattle.blink_live.specs.Rule.{HasPlace, IsInRole, Knows, IsTableAt}
 use Rattle.blink_live.specs.Views.{IsCommon}
 use Rattle.blink_live.specs.Words.{place_word}
 use Rattle.blink_live.proofs.closed.AllBack.{seat_there}

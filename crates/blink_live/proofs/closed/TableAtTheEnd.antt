@@ -41,7 +41,7 @@ module _ (plan : Plan) (s : State ℕ View) (tree_state : TreeState) (h : IsTabl
         | no inside ↦ omega (arith, inside)
       ] in
       let word : PageWordIs plan h.owners s.words (slice_index s.words number) (Some page) = subst (PageWordIs plan h.owners s.words (slice_index s.words number)) there (h.pages number some_number in_range) in
-      record { number_in_range = (some_number, in_range); row_in_range = word.published.0; row_begins = word.begins }
+      record { number_in_range = (some_number, in_range); row_in_range = word.published.0; base = word.base; behind = word.behind; row_begins = word.begins; version = word.version }
 
   pub kept_prime : KeepsPrime plan.counts s.words tree_state.prime
   kept_prime =

@@ -18,6 +18,7 @@ use Rattle.blink_live.specs.declared.view.Change.{Change}
 use Rattle.blink_live.specs.Seats.{BeginsAt, HasRead, IsAtPage, IsDescending, IsGoing, ReadsWay, ReadsLeaf, TellsWayFor}
 use Rattle.blink_live.specs.Views.{SeatState, for_call, known_of}
 use Rattle.blink_live.proofs.found.OperationsOnTheirWay.{goes_down, same_reading}
+use Rattle.blink_live.proofs.found.VersionsAreRead.{version_loaded}
 
 -- ---- the root
 
@@ -46,7 +47,7 @@ module _ (op : Op) (number level : ℕ) (me then : SeatState) (begun : BeginsAt 
   pub read_at_root : HasRead op (for_call me.0 op, me.1) then begun.machine
   read_at_root =
       let begins = begun.begins in record {
-        same = (same_reading (for_call me.0 op) begun.machine begins.way begun.row _ begins.seen then.0 (ap (λ (x : SeatState). x.0) begins.is), ap (λ (x : SeatState). x.1) begins.is);
+        same = (same_reading (for_call me.0 op) begun.machine begins.way begun.row _ [] begins.seen then.0 (ap (λ (x : SeatState). x.0) begins.is), ap (λ (x : SeatState). x.1) begins.is);
         saw = subst (λ (seen : List Change). IsPrefix me.0.seen seen) (sym (ap (λ (x : SeatState). x.0.seen) begins.is)) begins.learns.saw;
         knows_own = begins.knows_own;
         operation = ap (λ (x : SeatState). x.0.operation) begins.is;
@@ -84,12 +85,12 @@ tells_way me key number level page way kept at readable tells =
       maps = λ found_key op here. subst (λ (k : ℕ). value_at k page.entries ≡ kept) (sym at.same_key ∙ ap key_of op) (tells.maps here);
     }
 
-pub goes_on_down : (op : Op) (key number level row : ℕ) (first me new : SeatState) (after : PlainMachine) (way : Way) (kept : Option ℕ) → (at : IsAtPage me key number level) → HasRead op first me at.machine → at.machine.answer ≡ None
-    → (reads : ReadsWay at.machine key number row me way kept new) → SeesOnItsWay at.machine number reads.loads.page after → HasRead op first new after × IsDescending op (known_of new.0 (key_of op)) after
-goes_on_down op key number level row first me new after way kept at read none_yet reads sees =
+pub goes_on_down : (op : Op) (key number level word : ℕ) (first me new : SeatState) (after : PlainMachine) (way : Way) (kept : Option ℕ) → (at : IsAtPage me key number level) → HasRead op first me at.machine → at.machine.answer ≡ None
+    → (reads : ReadsWay at.machine key number word me way kept new) → SeesOnItsWay at.machine number reads.loads.page after → HasRead op first new after × IsDescending op (known_of new.0 (key_of op)) after
+goes_on_down op key number level word first me new after way kept at read none_yet reads sees =
     let same : after ≡ reads.machine = reads.loads.only after (SeesPage.on_its_way sees) in
     subst (λ (x : PlainMachine). HasRead op first new x × IsDescending op (known_of new.0 (key_of op)) x) (sym same)
-    (goes_down op number row first me at.machine reads.machine new read (record { same_job = at.same_job; on_its_way = (number, level, at.state) }) none_yet reads.loads)
+    (goes_down op number word first me at.machine reads.machine new read (record { same_job = at.same_job; on_its_way = (number, level, at.state) }) none_yet reads.loads)
 
 -- ---- a find from page to page
 
@@ -106,7 +107,7 @@ pub comes_to_root : (op : Op) (number level : ℕ) (me then : SeatState) → Fit
 comes_to_root op number level me then fits begun =
     come_to op number level (for_call me.0 op, me.1) then begun.machine (read_at_root op number level me then begun) fits (state_at_root op number level me then begun) (none_at_root op number level me then begun)
 
-module _ (op : Op) (number level row : ℕ) (first me new : SeatState) (way : Way) (kept : Option ℕ) (has : HasComeTo op first me number level) (reads : ReadsWay has.at.machine (key_of op) number row me way kept new) where
+module _ (op : Op) (number level word : ℕ) (first me new : SeatState) (way : Way) (kept : Option ℕ) (has : HasComeTo op first me number level) (reads : ReadsWay has.at.machine (key_of op) number word me way kept new) where
   its_key : target has.at.machine ≡ key_of op
   its_key = ap (λ (job : Job). key_of_job has.at.machine.op job) has.at.same_job ∙ has.at.same_key
 
@@ -123,7 +124,7 @@ module _ (op : Op) (number level row : ℕ) (first me new : SeatState) (way : Wa
   goes = record { same_job = has.read.same_job; on_its_way = (number, level, has.at.state) }
 
   now : HasRead op first new reads.machine × IsDescending op (known_of new.0 (key_of op)) reads.machine
-  now = goes_down op number row first me has.at.machine reads.machine new has.read goes has.none_yet reads.loads
+  now = goes_down op number word first me has.at.machine reads.machine new has.read goes has.none_yet reads.loads
 
   is_machine : (other : PlainMachine) → SeesOnItsWay has.at.machine number reads.loads.page other → reads.machine ≡ other
   is_machine other sees = sym (reads.loads.only other (SeesPage.on_its_way sees))
@@ -172,13 +173,13 @@ module _ (op : Op) (number level row : ℕ) (first me new : SeatState) (way : Wa
     find_ends = (now.0, ap (λ (x : PlainMachine). x.state) ended_as)
 
     -- and the seat reads its leaf
-    pub reads_leaf : ReadsLeaf (key_of op) row new
+    pub reads_leaf : ReadsLeaf (key_of op) word new
     reads_leaf =
         let leads_here = subst (Leads reads.loads.page (key_of op)) here reads.tells.leads in
         let is_leaf : level ≡ 0 = sym its_level ∙ leads_here.1 in
         let at_leaf : has.at.machine.state ≡ Going number 0 = has.at.state ∙ ap (Going number) is_leaf in record {
           leaf = reads.loads.page;
-          reads = record { reads = ap (λ (x : SeatState). x.0.reads) reads.loads.is; lawful = reads.loads.lawful };
+          reads = version_loaded reads.loads;
           reaches = leads_here.0;
           states = λ other not_before not_behind.
               reads.loads.tells at_leaf other (subst (λ (k : ℕ). k ≤ other) (sym its_key) not_before) not_behind

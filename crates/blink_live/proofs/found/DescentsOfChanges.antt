@@ -44,12 +44,12 @@ module _ {fan : ℕ} {op : Op} {first me : SeatState} {above : List ℕ} {number
   abbrev pub at_this : IsAtPage me (key_of op) number level
   at_this = at_page op (key_of op) number level first me now has.read fits refl refl
 
-  module _ {row : ℕ} {new : SeatState} {way : Way} {kept : Option ℕ} (reads : ReadsWay now (key_of op) number row me way kept new) where
+  module _ {word : ℕ} {new : SeatState} {way : Way} {kept : Option ℕ} (reads : ReadsWay now (key_of op) number word me way kept new) where
     goes : IsGoing now
     goes = record { same_job = refl; on_its_way = (number, level, refl) }
 
     goes_to : (other : PlainMachine) → SeesOnItsWay now number reads.loads.page other → HasRead op first new other
-    goes_to other sees = subst (HasRead op first new) (sym (reads.loads.only other (SeesPage.on_its_way sees))) (goes_down op number row first me now reads.machine new has.read goes refl reads.loads).0
+    goes_to other sees = subst (HasRead op first new) (sym (reads.loads.only other (SeesPage.on_its_way sees))) (goes_down op number word first me now reads.machine new has.read goes refl reads.loads).0
 
     leads_by : (w : Way) → way ≡ w → Leads reads.loads.page (key_of op) w
     leads_by w is = subst (Leads reads.loads.page (key_of op)) is reads.tells.leads

@@ -1,5 +1,5 @@
 -- The load of the prime block's page word is the first step of an operation.
-use Rattle.std.proofs.Common.{◌≡◌, ℕ, suc, ◌+◌, ◌≤◌, Some, None, List, [], refl, sym, ap, ◌∙◌, subst, inl, ⊎_elim, ◌⊎◌, ◌≢◌, ◌<◌, arith}
+use Rattle.std.proofs.Common.{◌≡◌, ℕ, suc, ◌+◌, ◌≤◌, Some, None, List, [], ◌++◌, refl, sym, ap, ◌∙◌, subst, inl, ⊎_elim, ◌⊎◌, ◌≢◌, ◌<◌, arith}
 use mathlib.Core.Option.{some}
 use lib.ListN.{get_elem?}
 use mathlib.Core.List.{append-nil}
@@ -8,7 +8,7 @@ use mathlib.Core.Option.{none}
 use Rattle.blink_batch.specs.{FitsWords}
 use Rattle.blink_batch.specs.declared.Op.{Op}
 use Rattle.blink_page.specs.declared.limits.TheConstants.{MAX_PAGE}
-use Rattle.blink_rows.specs.{prime_words}
+use Rattle.blink_rows.specs.{PlainCounts, prime_words}
 use Rattle.blink_machine.specs.declared.machine.State.{State as MachineState}
 use Rattle.blink_machine.specs.declared.machine.State.TheVariants.{Start, Posting, Ended}
 use Rattle.blink_machine.specs.declared.step.Step.TheVariants.{Moved}
@@ -23,7 +23,7 @@ use Rattle.blink_live.specs.AtomicSteps.{begins}
 use Rattle.blink_live.specs.Reuse.{IsAtHand}
 use Rattle.blink_live.specs.Rule.{ReadsRow, IsInRole, IsBoundedWay, Knows, IsTable, IsTableAt}
 use Rattle.blink_live.specs.Views.{pages_of, rows_taken, IsCommon, SeatState, CanBegin, for_call, reading, span}
-use Rattle.blink_live.specs.Words.{named_row}
+use Rattle.blink_live.specs.Words.{RowBegins, named_row}
 use Rattle.blink_live.proofs.reuse.ReuseStaysSafe.{reads_named, reuse_stays}
 use Rattle.blink_live.proofs.table.AccountsStay.{account, still_saw}
 use Rattle.blink_live.proofs.table.LoadsKeepTable.{moved, load_keeps_with}
@@ -55,11 +55,11 @@ module _ (tree_state : TreeState) (worker : ℕ) (m after : PlainMachine) where
 
 module _ (plan : Plan) (s : State ℕ View) (tree_state : TreeState) (h : IsTableAt plan s tree_state) (id : ℕ) (v : View) (after : PlainMachine) (row way : ℕ) (content : List ℕ) (at : get_elem? s.views id ≡ some v) (role : v.role ≡ Pass) where
   -- the seat of an operation that begins
-  begin_knows : (op : Op) → CanBegin v op → IsBoundedWay tree_state (reading (for_call v op) after way row content h.log) → ReadsRow plan h.owners s.words (Some (row, content))
-      → Knows plan h.owners s.words (moved tree_state id (goes_on after after.state)) h.log id (reading (for_call v op) after way row content h.log)
+  begin_knows : (op : Op) → CanBegin v op → IsBoundedWay tree_state (reading (for_call v op) after way row content [] h.log) → ReadsRow plan h.owners s.words (Some (row, content)) []
+      → Knows plan h.owners s.words (moved tree_state id (goes_on after after.state)) h.log id (reading (for_call v op) after way row content [] h.log)
   begin_knows op can bounded reads =
       let known = h.views id v at in
-      let w : View = reading (for_call v op) after way row content h.log in
+      let w : View = reading (for_call v op) after way row content [] h.log in
       let low_row = known.rows.in_range.0 in
       let high_row = known.rows.in_range.1 in
       let low_page = known.numbers.in_range.0 in
@@ -113,6 +113,10 @@ call_of_rows plan s tree_state h id v op at can row = λ hand.
     ⊎_elim (λ (t : (v.rows.next + rows_taken op v.rows ≤ row) × (row < v.rows.stop)). inl (inl (omega (arith, t), t.1)))
     (λ (t : (v.rows.next ≤ row) × (row < v.rows.next + rows_taken op v.rows)). inl (inl (t.0, omega (arith, t, enough)))) hand
 
+-- nothing stands behind a prime block
+pub alone : (counts : PlainCounts) (words : List ℕ) (row : ℕ) (content : List ℕ) → RowBegins counts words row content → RowBegins counts words row (content ++ [])
+alone counts words row content is = subst (RowBegins counts words row) (sym (append-nil content)) is
+
 pub begins_operation : (plan : Plan) (slots id : ℕ) (me : SeatState) (op : Op) → me.0.role ≡ Pass → me.0.operation ≡ None → FitsWords op → CanBegin me.0 op → 1 ≤ plan.counts.numbers
     → Allows (IsTable plan) slots id me 0 (λ k. k) (begins op (step slots 0 0 0 none) me)
 begins_operation plan slots id me op role idle fits enough some_number s table homes at small =
@@ -128,7 +132,7 @@ begins_operation plan slots id me op role idle fits enough some_number s table h
     let after : PlainMachine = first.after in
     let way : ℕ = descent_bound tree_state.pages after in
     let row : ℕ = named_row s.words 0 in
-    let w : View = reading (for_call me.0 op) after way row (prime_words tree_state.prime) h.log in
+    let w : View = reading (for_call me.0 op) after way row (prime_words tree_state.prime) [] h.log in
     let invariant = step_law.step_keeps_invariant tree_state (moved tree_state id (goes_on after after.state)) id m after (Moved kind.ReadPrime) h.invariant fits its
     (prime_step tree_state id m after refl first.sees) in (
       w,
@@ -138,7 +142,7 @@ begins_operation plan slots id me op role idle fits enough some_number s table h
           (λ common role. still_saw plan h.owners.place h.log s.views id me.0 w at (h.accounted common) (account plan h.owners.place h.log s.views id me.0 w at (h.accounted common) role) h.log known.saw ([], append-nil h.log) role)
           (λ common. reuse_stays plan h.owners.row s.words s.views id me.0 w at (h.reuse common) h.owners.row s.words (λ other is. is) (λ seat r later is apart. is) (λ n few. refl) refl (call_of_rows plan s tree_state h id me.0 op at enough)
           (reads_named plan s.words me.0 w 0 row (prime_words tree_state.prime) refl refl refl refl role (enough.announced (subst IsCommon (sym known.same_plan) common)) (omega (arith, some_number)) refl))
-          (begin_knows plan s tree_state h id me.0 after row way (prime_words tree_state.prime) at role op enough (λ other is. ap (descent_bound tree_state.pages) (sym (goes_on_as after after.state other is))) (h.prime.published, h.prime.begins)),
+          (begin_knows plan s tree_state h id me.0 after row way (prime_words tree_state.prime) at role op enough (λ other is. ap (descent_bound tree_state.pages) (sym (goes_on_as after after.state other is))) (h.prime.published, alone plan.counts s.words row (prime_words tree_state.prime) h.prime.begins)),
       (
         after,
         record {

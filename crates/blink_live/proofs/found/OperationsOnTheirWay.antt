@@ -6,7 +6,7 @@ use Rattle.blink_batch.specs.{FitsWords, answer_at, key_of, pointer_of}
 use Rattle.blink_batch.specs.declared.Op.{Op}
 use Rattle.blink_batch.specs.declared.Op.TheVariants.{Find}
 use Rattle.blink_page.specs.{PlainPage}
-use Rattle.blink_rows.specs.{PlainCounts}
+use Rattle.blink_rows.specs.{PlainCounts, row_in}
 use Rattle.blink_machine.specs.declared.machine.State.TheVariants.{Going}
 use Rattle.blink_machine.specs.{PlainMachine, NeedsPage, need_at, SeesPrime, SeesPage, SeesOnItsWay}
 use Rattle.blink_machine.proofs.Offered.{goes_on_if_needed}
@@ -21,16 +21,16 @@ use Rattle.blink_live.specs.Views.{IsAnnounced, SeatState, SameBesideReads, read
 use Rattle.blink_live.proofs.told.PrefixesOfOneList.{prefix_of_prefix}
 
 pub same_trans : (u v w : View) → SameBesideReads u v → SameBesideReads v w → SameBesideReads u w
-same_trans u v w first second = second ∙ ap (λ (x : View). record x { operation = w.operation; descent_bound = w.descent_bound; reads = w.reads; seen = w.seen }) first
+same_trans u v w first second = second ∙ ap (λ (x : View). record x { operation = w.operation; descent_bound = w.descent_bound; reads = w.reads; behind = w.behind; seen = w.seen }) first
 
-pub same_reading : (v : View) (then : PlainMachine) (way row : ℕ) (words : List ℕ) (seen : List Change) (w : View) → w ≡ reading v then way row words seen → SameBesideReads v w
-same_reading v then way row words seen w is = subst (SameBesideReads v) (sym is) refl
+pub same_reading : (v : View) (then : PlainMachine) (way row : ℕ) (words behind : List ℕ) (seen : List Change) (w : View) → w ≡ reading v then way row words behind seen → SameBesideReads v w
+same_reading v then way row words behind seen w is = subst (SameBesideReads v) (sym is) refl
 
 -- and after each page
-module _ (op : Op) (number row : ℕ) (first me : SeatState) (m then : PlainMachine) (new : SeatState) (has : HasRead op first me m) (is_going : IsGoing m) (loads : LoadsPage m number me row then new) where
+module _ (op : Op) (number word : ℕ) (first me : SeatState) (m then : PlainMachine) (new : SeatState) (has : HasRead op first me m) (is_going : IsGoing m) (loads : LoadsPage m number me word then new) where
   pub read_one_more : then.op ≡ m.op → then.job ≡ m.job → HasRead op first new then
   read_one_more same_op same_job = record {
-    same = (same_trans first.0 me.0 new.0 has.same.0 (same_reading me.0 then loads.way row _ loads.seen new.0 (ap (λ (x : SeatState). x.0) loads.is)), ap (λ (x : SeatState). x.1) loads.is ∙ has.same.1);
+    same = (same_trans first.0 me.0 new.0 has.same.0 (same_reading me.0 then loads.way (row_in word) _ loads.behind loads.seen new.0 (ap (λ (x : SeatState). x.0) loads.is)), ap (λ (x : SeatState). x.1) loads.is ∙ has.same.1);
     saw = prefix_of_prefix first.0.seen me.0.seen new.0.seen has.saw (subst (λ (seen : List Change). IsPrefix me.0.seen seen) (sym (ap (λ (x : SeatState). x.0.seen) loads.is)) loads.learns.saw);
     knows_own = loads.knows_own;
     operation = ap (λ (x : SeatState). x.0.operation) loads.is;
@@ -48,13 +48,13 @@ module _ (op : Op) (number row : ℕ) (first me : SeatState) (m then : PlainMach
 
 -- ---- a page that is read on the way down
 
-module _ (op : Op) (number row : ℕ) (first me : SeatState) (m then : PlainMachine) (new : SeatState) (has : HasRead op first me m) (is_going : IsGoing m) (none_yet : m.answer ≡ None)
-    (loads : LoadsPage m number me row then new) where
+module _ (op : Op) (number word : ℕ) (first me : SeatState) (m then : PlainMachine) (new : SeatState) (has : HasRead op first me m) (is_going : IsGoing m) (none_yet : m.answer ≡ None)
+    (loads : LoadsPage m number me word then new) where
   abbrev Now : Type 0
   Now = HasRead op first new then × IsDescending op (known_of new.0 (key_of op)) then
 
   same_way : then.op ≡ m.op → then.job ≡ m.job → IsDescending op (known_of new.0 (key_of op)) then → Now
-  same_way same_op same_job descends = (read_one_more op number row first me m then new has is_going loads same_op same_job, descends)
+  same_way same_op same_job descends = (read_one_more op number word first me m then new has is_going loads same_op same_job, descends)
 
   by_way : (page : PlainPage) → SeesOnItsWay m number page then → Now
   by_way page (SeesOnItsWay.goes_right level next was leads is) =
@@ -67,7 +67,7 @@ module _ (op : Op) (number row : ℕ) (first me : SeatState) (m then : PlainMach
       (going (record { same_job = same_job ∙ is_going.same_job; on_its_way = (child, level, ap (λ (x : PlainMachine). x.state) is) }) (ap (λ (x : PlainMachine). x.answer) is ∙ none_yet))
   by_way page (SeesOnItsWay.find_answers level key was leads is_find is) =
       let given : then.answer ≡ Some (answer_at (Find key) _) = ap (λ (x : PlainMachine). x.answer) is in
-      same_way (ap (λ (x : PlainMachine). x.op) is) (ap (λ (x : PlainMachine). x.job) is) (at_leaf (found key (sym has.same_op ∙ is_find) (ap (λ (x : PlainMachine). x.state) is) (elim (answers_as_told op number row first me m then new has is_going loads loads.answers none_yet) [
+      same_way (ap (λ (x : PlainMachine). x.op) is) (ap (λ (x : PlainMachine). x.job) is) (at_leaf (found key (sym has.same_op ∙ is_find) (ap (λ (x : PlainMachine). x.state) is) (elim (answers_as_told op number word first me m then new has is_going loads loads.answers none_yet) [
         | inl nothing ↦ absurd (cc)
         | inr as_told ↦ as_told
       ])))
@@ -115,8 +115,8 @@ module _ {op : Op} {first me : SeatState} {m : PlainMachine} (read : HasRead op 
       (there.0, subst (λ (k : PlainCounts). number < k.numbers) same there.1)
 
 -- each page is nearer to the leaf
-pub comes_nearer : (m then : PlainMachine) (number row : ℕ) (me new : SeatState) → IsGoing m → NeedsPage m number → LoadsPage m number me row then new → new.0.descent_bound < me.0.descent_bound
-comes_nearer m then number row me new goes needs loads =
+pub comes_nearer : (m then : PlainMachine) (number word : ℕ) (me new : SeatState) → IsGoing m → NeedsPage m number → LoadsPage m number me word then new → new.0.descent_bound < me.0.descent_bound
+comes_nearer m then number word me new goes needs loads =
     let at = goes.on_its_way.2 in
     let needed = ap need_at at in
     let same : goes.on_its_way.0 ≡ number = cc in

@@ -74,10 +74,11 @@ reads_page_word plan slots id number me m role at_m fits needs some_number in_ra
     let reads = order.reads_page id number m its needs in
     let then : PlainMachine = reads.one_machine.after in
     let sees = reads.one_machine.sees in
+    let word : ℕ = slice_index s.words number in
     let row : ℕ = named_row s.words number in
     let is_page : PageWordIs plan h.owners s.words (slice_index s.words number) (Some reads.page) = subst (PageWordIs plan h.owners s.words (slice_index s.words number)) reads.there (h.pages number some_number in_range) in
     let way : ℕ = descent_bound tree_state.pages then in
-    let w : View = reading me.0 then way row (page_words reads.page) h.log in
+    let w : View = reading me.0 then way row (page_words is_page.base) is_page.behind h.log in
     let stepped = read_step tree_state id number m then reads.page needs reads.there sees in
     let new : TreeState = moved tree_state id (goes_on then then.state) in
     let invariant = step_law.step_keeps_invariant tree_state new id m then (Moved (kind.ReadPage number)) h.invariant fits its stepped in
@@ -90,14 +91,17 @@ reads_page_word plan slots id number me m role at_m fits needs some_number in_ra
           (is_page.published, is_page.begins)
           ([], append-nil h.log)
           (h.views id me.0 at).saw
-          (λ common. reads_named plan s.words me.0 w number row (page_words reads.page) refl refl refl refl role (announced (subst IsCommon (sym known.same_plan) common)) in_range refl),
-      λ same at_same needed. subst (λ (k : PlainMachine). (machine : PlainMachine) × LoadsPage k number me row machine (w, me.1)) (let e : m ≡ same = cc in e) (
+          (λ common. reads_named plan s.words me.0 w number row (page_words is_page.base) refl refl refl refl role (announced (subst IsCommon (sym known.same_plan) common)) in_range refl),
+      λ same at_same needed. subst (λ (k : PlainMachine). (machine : PlainMachine) × LoadsPage k number me word machine (w, me.1)) (let e : m ≡ same = cc in e) (
         then,
         record {
           page = reads.page;
+          base = is_page.base;
+          behind = is_page.behind;
           way = way;
           seen = h.log;
           is = refl;
+          version = is_page.version;
           learns = record { saw = known.saw; heard = known.heard };
           row_in_range = subst (λ (p : Plan). (1 ≤ row) × (row ≤ p.counts.rows)) (sym known.same_plan) is_page.published.0;
           lawful = lawful_within tree_state.fan reads.page h.invariant.1.fan_in_range.1 reads.lawful;

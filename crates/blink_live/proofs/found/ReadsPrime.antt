@@ -24,7 +24,7 @@ use Rattle.blink_live.proofs.table.LoadsKeepTable.{moved, load_keeps}
 use Rattle.blink_live.proofs.table.SharesAreKnown.{share_is_known}
 use Rattle.blink_live.proofs.table.MapsWithOneChange.{put_here, put_same}
 use Rattle.blink_live.proofs.table.NextPageIsThere.{next_page_is_there}
-use Rattle.blink_live.proofs.found.OperationBegins.{goes_on_as, prime_step}
+use Rattle.blink_live.proofs.found.OperationBegins.{alone, goes_on_as, prime_step}
 
 -- what comes of a prime block that an operation under way reads
 record Asked (tree_state : TreeState) (worker : ℕ) (m : PlainMachine) : Type 0 where
@@ -79,11 +79,11 @@ reads_prime_word plan slots id me m role at_m fits needs some_number announced s
     let then : PlainMachine = comes.machine in
     let row : ℕ = named_row s.words 0 in
     let way : ℕ = descent_bound tree_state.pages then in
-    let w : View = reading me.0 then way row (prime_words tree_state.prime) h.log in (
+    let w : View = reading me.0 then way row (prime_words tree_state.prime) [] h.log in (
       w,
       keeps,
       tt,
-      load_keeps plan s tree_state h id 0 me.0 w at role (m, at_m) comes.invariant refl (λ some_other is. ap (descent_bound tree_state.pages) (sym (goes_on_as then then.state some_other is))) (h.prime.published, h.prime.begins) ([], append-nil h.log) (h.views id me.0 at).saw
+      load_keeps plan s tree_state h id 0 me.0 w at role (m, at_m) comes.invariant refl (λ some_other is. ap (descent_bound tree_state.pages) (sym (goes_on_as then then.state some_other is))) (h.prime.published, alone plan.counts s.words row (prime_words tree_state.prime) h.prime.begins) ([], append-nil h.log) (h.views id me.0 at).saw
           (λ common. reads_named plan s.words me.0 w 0 row (prime_words tree_state.prime) refl refl refl refl role (announced (subst IsCommon (sym known.same_plan) common)) (omega (arith, some_number)) refl),
       λ same at_same needed. subst (λ (k : PlainMachine). (machine : PlainMachine) × LoadsPrime k me row machine (w, me.1)) (let e : m ≡ same = cc in e) (
         then,

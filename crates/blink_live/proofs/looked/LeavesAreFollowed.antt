@@ -115,21 +115,21 @@ module _ (plan : Plan) (s : State ℕ View) (tree_state : TreeState) (h : IsTabl
       inr (next, (next_in_range next it.1 it.2).1, ap (λ (x : ℕ × ℕ). row_in x.1) is)
 
   abbrev along : View
-  along = goes v named (page_words page) h.log its_look
+  along = goes v named (page_words is_page.base) is_page.behind h.log its_look
 
   may_read : IsCommon plan → MayReadOn plan s.words v along
   may_read common other content is = record {
     awake = (role, awake common);
-    from = ⊎_elim (λ (now : along.reads ≡ Some (other, content)). inr (number, in_range, row_is named other (page_words page) content now))
+    from = ⊎_elim (λ (now : along.reads ≡ Some (other, content)). inr (number, in_range, row_is named other (page_words is_page.base) content now))
         (λ (has : HasNoted its_look other). contains_case (next_note page.right s.words (number, before)) v.look.leaves (has.0, has.1) has.2
         (λ its. ⊎_elim (λ (t : (c : List ℕ) × HoldsRow v (row_in has.1) c). inl (t.0, subst (λ (r : ℕ). HoldsRow v r t.0) has.3 t.1, refl, refl))
         (λ (t : (k : ℕ) × (k < plan.counts.numbers) × (named_row s.words k ≡ row_in has.1)). inr (t.0, t.1, t.2 ∙ has.3)) (held page.right refl has.0 has.1 content its))
         (λ was. inl (content, inr (has.0, has.1, was, has.3), refl, refl))) is;
   }
 
-  pub along_keeps : IsTable plan record { words = set s.words number (get_or s.words number 0); homes = s.homes; views = set s.views id (goes v (named_row s.words number) (page_words page) h.log its_look) }
+  pub along_keeps : IsTable plan record { words = set s.words number (get_or s.words number 0); homes = s.homes; views = set s.views id (goes v (named_row s.words number) (page_words is_page.base) is_page.behind h.log its_look) }
   along_keeps =
-      let read : View = record v { reads = Some (named, page_words page); seen = h.log } in
+      let read : View = record v { reads = Some (named, page_words is_page.base); behind = is_page.behind; seen = h.log } in
       load_keeps_with plan s tree_state h id number v along at (still plan s tree_state h id v at role) refl refl refl
       (λ common is. still_saw plan h.owners.place h.log s.views id v along at (h.accounted common) (account plan h.owners.place h.log s.views id v along at (h.accounted common) is) h.log (h.views id v at).saw ([], append-nil h.log) is)
       (λ common. reuse_stays plan h.owners.row s.words s.views id v along at (h.reuse common) h.owners.row s.words (λ r is. is) (λ seat r later is apart. is) (λ n few. refl) refl (hand_stays h.owners.row id v along refl refl) (may_read common))
@@ -176,21 +176,25 @@ goes_along_at plan slots id number me same role awake leaf s table homes at smal
     let its = h.views id me.0 at in
     let in_range : number < plan.counts.numbers = subst (λ (p : Plan). number < p.counts.numbers) same leaf.in_range.1 in
     let page = leaf_there tree_state.fan tree_state.prime tree_state.pages number (its.reads.1 number leaf.word leaf.noted).in_chain in
-    let row : ℕ = named_row s.words number in (
-      goes me.0 row (page_words page.0) h.log (its_look plan s tree_state h id me.0 at role awake number leaf.word leaf.in_range.0 in_range leaf.noted page.0 page.1),
+    let row : ℕ = named_row s.words number in
+    let its_page = is_page plan s tree_state h id me.0 at role awake number leaf.word leaf.in_range.0 in_range leaf.noted page.0 page.1 in (
+      goes me.0 row (page_words its_page.base) its_page.behind h.log (its_look plan s tree_state h id me.0 at role awake number leaf.word leaf.in_range.0 in_range leaf.noted page.0 page.1),
       keeps,
       tt,
       along_keeps plan s tree_state h id me.0 at role awake number leaf.word leaf.in_range.0 in_range leaf.noted page.0 page.1,
       record {
         page = page.0;
+        base = its_page.base;
+        behind = its_page.behind;
         seen = h.log;
         look = its_look plan s tree_state h id me.0 at role awake number leaf.word leaf.in_range.0 in_range leaf.noted page.0 page.1;
         is = refl;
+        version = its_page.version;
         saw = its.saw;
-        row_in_range = subst (λ (p : Plan). (1 ≤ row) × (row ≤ p.counts.rows)) (sym same) (is_page plan s tree_state h id me.0 at role awake number leaf.word leaf.in_range.0 in_range leaf.noted page.0 page.1).published.0;
+        row_in_range = subst (λ (p : Plan). (1 ≤ row) × (row ≤ p.counts.rows)) (sym same) its_page.published.0;
         lawful = is_lawful plan s tree_state h id me.0 at role awake number leaf.word leaf.in_range.0 in_range leaf.noted page.0 page.1;
         tells = tells_now plan s tree_state h id me.0 at role awake number leaf.word leaf.in_range.0 in_range leaf.noted page.0 page.1;
         right = right_noted plan s tree_state h id me.0 at role awake number leaf.word leaf.in_range.0 in_range leaf.noted page.0 page.1;
-        knows_own = share_is_known plan h.owners (suc id) (goes me.0 row (page_words page.0) h.log (its_look plan s tree_state h id me.0 at role awake number leaf.word leaf.in_range.0 in_range leaf.noted page.0 page.1)) its.same_plan its.share;
+        knows_own = share_is_known plan h.owners (suc id) (goes me.0 row (page_words its_page.base) its_page.behind h.log (its_look plan s tree_state h id me.0 at role awake number leaf.word leaf.in_range.0 in_range leaf.noted page.0 page.1)) its.same_plan its.share;
       },
     )

@@ -1,5 +1,5 @@
 -- The loads of a snapshot keep the rule: a seat notes leaves, marks a tree state, and loads their page words once more.
-use Rattle.std.proofs.Common.{◌≡◌, ◌≢◌, ⊎_elim, ℕ, suc, ◌<◌, ◌≤◌, Option, Some, None, List, [], ◌∷◌, get_or, set, refl, sym, ap, ◌∙◌, subst, inl, inr}
+use Rattle.std.proofs.Common.{◌≡◌, ◌≢◌, ⊎_elim, ℕ, suc, ◌<◌, ◌≤◌, Option, Some, None, List, [], get_or, set, refl, sym, ap, ◌∙◌, subst, inl, inr}
 use Rattle.std.specs.Prelude.{Contains, slice_index}
 use mathlib.Core.Option.{some, none}
 use mathlib.Core.List.{append-nil}
@@ -165,12 +165,12 @@ module _ (plan : Plan) (s : State ℕ View) (tree_state : TreeState) (h : IsTabl
     is_page = subst (PageWordIs plan h.owners s.words (slice_index s.words number)) there (h.pages number some_number in_range)
 
     abbrev again : View
-    again = reads_again v (named_row s.words number) (page_words page)
+    again = reads_again v (named_row s.words number) (page_words is_page.base) is_page.behind
 
-    pub again_keeps : IsTable plan record { words = set s.words number (get_or s.words number 0); homes = s.homes; views = set s.views id (reads_again v (named_row s.words number) (page_words page)) }
+    pub again_keeps : IsTable plan record { words = set s.words number (get_or s.words number 0); homes = s.homes; views = set s.views id (reads_again v (named_row s.words number) (page_words is_page.base) is_page.behind) }
     again_keeps = load_keeps_with plan s tree_state h id number v again at still refl refl refl (λ common. (h.accounted common).saw_own id v at)
         (λ common. reuse_stays plan h.owners.row s.words s.views id v again at (h.reuse common) h.owners.row s.words (λ r is. is) (λ seat r later is apart. is) (λ n few. refl) refl (hand_stays h.owners.row id v again refl refl)
-        (reads_named plan s.words v again number named (page_words page) refl refl refl refl role (awake common) in_range refl))
+        (reads_named plan s.words v again number named (page_words is_page.base) refl refl refl refl role (awake common) in_range refl))
         (load_knows_in plan s tree_state h id number v again at (subst (IsInRole plan h.owners h.log id again) (sym role) kept) busy refl known.bounded (is_page.published, is_page.begins) known.saw)
 
     pub is_lawful : Contains v.look.leaves (number, slice_index s.words number) → IsLawfulPage MAX_FAN page
@@ -214,6 +214,7 @@ looks_again_at plan slots id number me role awake some_number in_range s table h
     let h : IsTableAt plan s tree_state = table.1 in
     let word : ℕ = slice_index s.words number in
     let row : ℕ = named_row s.words number in
+    let its_page = λ (page : PlainPage) (there : tree_state.pages number ≡ Some page). is_page plan s tree_state h id me.0 at role number some_number in_range awake page there in
     dite (ℕ_discrete word 0)
     (λ blank. (
       me.0,
@@ -224,14 +225,17 @@ looks_again_at plan slots id number me role awake some_number in_range s table h
     ))
     (λ named.
     let page = page_of plan h.owners s.words word (tree_state.pages number) (h.pages number some_number in_range) named in (
-      reads_again me.0 row (page_words page.0),
+      reads_again me.0 row (page_words (its_page page.0 page.1).base) (its_page page.0 page.1).behind,
       keeps,
       tt,
       again_keeps plan s tree_state h id me.0 at role number some_number in_range awake page.0 page.1,
       record {
         some = λ again. record {
           page = page.0;
+          base = (its_page page.0 page.1).base;
+          behind = (its_page page.0 page.1).behind;
           is = refl;
+          version = (its_page page.0 page.1).version;
           row_in_range = subst (λ (p : Plan). (1 ≤ row) × (row ≤ p.counts.rows)) (sym (h.views id me.0 at).same_plan) (is_page plan s tree_state h id me.0 at role number some_number in_range awake page.0 page.1).published.0;
           lawful = is_lawful plan s tree_state h id me.0 at role number some_number in_range awake page.0 page.1;
           tells = tells_marked plan s tree_state h id me.0 at role number some_number in_range awake page.0 page.1;

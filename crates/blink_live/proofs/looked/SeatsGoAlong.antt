@@ -9,8 +9,9 @@ use Rattle.blink_live.specs.declared.view.Look.{Look}
 use Rattle.blink_live.specs.declared.view.Plan.{Plan}
 use Rattle.blink_live.specs.Along.{GoesAlong, IsNotedLeaf}
 use Rattle.blink_live.specs.Finding.{HasSearched, IsIdle}
-use Rattle.blink_live.specs.Seats.{IsPassSeat, ReadsLeaf, ReadsPage}
+use Rattle.blink_live.specs.Seats.{IsPassSeat, ReadsLeaf, ReadsVersion}
 use Rattle.blink_live.specs.Views.{KnowsItsOwn, SeatState, known_of}
+use Rattle.blink_live.specs.Words.{IsVersion}
 
 -- the seat's counts are the table's
 pub plan_counts : (live : Live) (table : TableId) (me : SeatState) → IsPassSeat live table me → me.0.plan.counts ≡ live.counts
@@ -24,8 +25,8 @@ noted_in_plan counts other look number same leaf = record {
 }
 
 -- after the load of a leaf's page word the seat has searched
-pub searched_along : (row : ℕ) (me new : SeatState) → IsIdle me.0 → GoesAlong me row new → HasSearched me new
-searched_along row me new was along = subst (HasSearched me) (sym along.is) record {
+pub searched_along : (word : ℕ) (me new : SeatState) → IsIdle me.0 → GoesAlong me word new → HasSearched me new
+searched_along word me new was along = subst (HasSearched me) (sym along.is) record {
   saw = along.saw;
   idle = record {
     idle = was.idle;
@@ -46,14 +47,19 @@ searched_along row me new was along = subst (HasSearched me) (sym along.is) reco
 }
 
 -- it reads the page
-pub reads_along : (row : ℕ) (me new : SeatState) (along : GoesAlong me row new) → ReadsPage new row along.page
-reads_along row me new along = record { reads = ap (λ (x : SeatState). x.0.reads) along.is; lawful = along.lawful }
+abbrev pub reads_along : (word : ℕ) (me new : SeatState) (along : GoesAlong me word new) → ReadsVersion new word along.page
+reads_along word me new along = record {
+  base = along.base;
+  reads = ap (λ (x : SeatState). x.0.reads) along.is;
+  version = subst (λ (x : SeatState). IsVersion word along.base x.0.behind along.page) (sym along.is) along.version;
+  lawful = along.lawful;
+}
 
 -- and if the key belongs there, the page tells of each key from there on
-pub leaf_along : (row key : ℕ) (me new : SeatState) (along : GoesAlong me row new) → IsKeyOf along.page key → ReadsLeaf key row new
-leaf_along row key me new along belongs = record {
+pub leaf_along : (word key : ℕ) (me new : SeatState) (along : GoesAlong me word new) → IsKeyOf along.page key → ReadsLeaf key word new
+leaf_along word key me new along belongs = record {
   leaf = along.page;
-  reads = reads_along row me new along;
+  reads = reads_along word me new along;
   reaches = belongs.1;
   states = λ other low high.
       let least = belongs.0 in
@@ -61,11 +67,11 @@ leaf_along row key me new along belongs = record {
 }
 
 -- the leaf to the right is noted
-noted_right : (counts : PlainCounts) (row : ℕ) (me new : SeatState) (along : GoesAlong me row new) → me.0.plan.counts ≡ counts → (right : Option ℕ) → along.page.right ≡ right → IfSome right (IsNotedLeaf counts new.0.look)
-noted_right counts row me new along same None is = tt
-noted_right counts row me new along same (Some next) is =
+noted_right : (counts : PlainCounts) (word : ℕ) (me new : SeatState) (along : GoesAlong me word new) → me.0.plan.counts ≡ counts → (right : Option ℕ) → along.page.right ≡ right → IfSome right (IsNotedLeaf counts new.0.look)
+noted_right counts word me new along same None is = tt
+noted_right counts word me new along same (Some next) is =
     subst (λ (x : SeatState). IsNotedLeaf counts x.0.look next) (sym along.is) (noted_in_plan me.0.plan.counts counts along.look next same (along.right next is))
 
-pub right_along : (counts : PlainCounts) (row : ℕ) (me new last : SeatState) (right : Option ℕ) (along : GoesAlong me row new) → me.0.plan.counts ≡ counts → last ≡ new → right ≡ along.page.right → IfSome right (IsNotedLeaf counts last.0.look)
-right_along counts row me new last right along same kept is =
-    subst (λ (x : SeatState). IfSome right (IsNotedLeaf counts x.0.look)) (sym kept) (noted_right counts row me new along same right (sym is))
+pub right_along : (counts : PlainCounts) (word : ℕ) (me new last : SeatState) (right : Option ℕ) (along : GoesAlong me word new) → me.0.plan.counts ≡ counts → last ≡ new → right ≡ along.page.right → IfSome right (IsNotedLeaf counts last.0.look)
+right_along counts word me new last right along same kept is =
+    subst (λ (x : SeatState). IfSome right (IsNotedLeaf counts x.0.look)) (sym kept) (noted_right counts word me new along same right (sym is))

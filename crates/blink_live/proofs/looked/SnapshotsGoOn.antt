@@ -10,7 +10,7 @@ use Rattle.blink_batch.specs.declared.Op.{Op}
 use Rattle.blink_batch.specs.declared.Op.TheVariants.{Find}
 use Rattle.blink_batch.specs.{pointer_of}
 use Rattle.blink_page.specs.{IsKeyOf, least_above}
-use Rattle.blink_rows.specs.{PlainCounts, row_in}
+use Rattle.blink_rows.specs.{PlainCounts}
 use Rattle.blink_rows.specs.Row.{flag}
 use Rattle.blink_machine.specs.declared.machine.State.TheVariants.{Ended}
 use Rattle.blink_machine.specs.{PlainMachine, goes_on}
@@ -24,6 +24,7 @@ use Rattle.blink_live.specs.Scanning.{IsCopied}
 use Rattle.blink_live.specs.Seats.{HasRead, ReadsLeaf}
 use Rattle.blink_live.specs.Snapshots.{AreNotedIn, IsNotedIn, IsSameBesideLook, IsSameBesideRow, IsSnapshot, LooksAgain, MarksState, NotesMore, ReadsAgain}
 use Rattle.blink_live.specs.Views.{KnowsItsOwn, SeatState, for_call, known_of}
+use Rattle.blink_live.specs.Words.{IsVersion}
 use Rattle.blink_live.proofs.found.DescentsGoOn.{HasComeTo}
 use Rattle.blink_live.proofs.found.FindsOfSeveral.{searched_more, searched_once}
 use Rattle.blink_live.proofs.scanned.ReportsGoOn.{all_of_both, both_ascend, says_first, says_second}
@@ -150,17 +151,22 @@ searched_twice first noted marked last searched is same =
 -- ---- the second load of a leaf's page word
 
 pub row_twice : (first me new : SeatState) → IsSameBesideRow first me → IsSameBesideRow me new → IsSameBesideRow first new
-row_twice first me new one two = two ∙ ap (λ (x : SeatState). let y : SeatState = (record x.0 { reads = new.0.reads }, x.1) in y) one
+row_twice first me new one two = two ∙ ap (λ (x : SeatState). let y : SeatState = (record x.0 { reads = new.0.reads; behind = new.0.behind }, x.1) in y) one
 
 pub again_beside_row : (number found : ℕ) (me new : SeatState) → LooksAgain number me found new → IsSameBesideRow me new
 again_beside_row number found me new again = dite (ℕ_discrete found 0)
     (λ blank. subst (IsSameBesideRow me) (sym (again.none blank)) refl)
     (λ named. subst (IsSameBesideRow me) (sym (again.some named).is) refl)
 
-pub reads_noted : (number word key : ℕ) (me new : SeatState) (again : ReadsAgain number me word new) → Contains me.0.look.leaves (number, word) → me.0.look.marked ≡ Some me.0.seen → IsKeyOf again.page key → ReadsLeaf key (row_in word) new
+pub reads_noted : (number word key : ℕ) (me new : SeatState) (again : ReadsAgain number me word new) → Contains me.0.look.leaves (number, word) → me.0.look.marked ≡ Some me.0.seen → IsKeyOf again.page key → ReadsLeaf key word new
 reads_noted number word key me new again has marked belongs = record {
   leaf = again.page;
-  reads = record { reads = ap (λ (x : SeatState). x.0.reads) again.is; lawful = again.lawful has };
+  reads = record {
+    base = again.base;
+    reads = ap (λ (x : SeatState). x.0.reads) again.is;
+    version = subst (λ (x : SeatState). IsVersion word again.base x.0.behind again.page) (sym again.is) again.version;
+    lawful = again.lawful has;
+  };
   reaches = belongs.1;
   states = λ other low high.
       let least = belongs.0 in

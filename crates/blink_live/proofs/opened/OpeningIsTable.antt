@@ -9,7 +9,7 @@ use Rattle.atomic_table.specs.Table.{opening}
 use Rattle.blink_index.specs.{map_of}
 use Rattle.blink_page.specs.{PlainPage}
 use Rattle.blink_rest.specs.{IsStoreAtRest}
-use Rattle.blink_rows.specs.{PlainCounts, AreBounded, page_words, prime_words, row_in}
+use Rattle.blink_rows.specs.{PlainCounts, AreBounded, prime_words, row_in}
 use Rattle.blink_store.specs.{PlainStore, page_of, IsLawfulStore}
 use Rattle.blink_store.proofs.Offered.{has_page, page_there}
 use Rattle.blink_machine.specs.TreeState.{TreeState}
@@ -31,7 +31,7 @@ use Rattle.blink_live.proofs.table.CallsOfSeats.{nothing_for_call}
 use Rattle.blink_live.proofs.reuse.ReuseStaysSafe.{agrees_with_none, empty_stock}
 use Rattle.blink_live.proofs.table.AccountsStay.{none_apart}
 use Rattle.blink_live.proofs.table.SparesOfSeats.{no_spare}
-use Rattle.blink_live.proofs.table.RowsAreNamed.{names_its_row, no_row_in, row_names_itself}
+use Rattle.blink_live.proofs.table.RowsAreNamed.{names_its_page, names_its_row, no_row_in, row_names_itself}
 
 -- the plan of a table that opens
 abbrev pub plan_over : PlainStore → PlainCounts → ℕ → Plan
@@ -117,7 +117,7 @@ module _ (store : PlainStore) (counts : PlainCounts) (places : ℕ) (words : Lis
             let named : slice_index words number ≡ number + 1 = laid.page_words_named number (omega arith) in
             let free = owner_before (length store.pages + 2) (number + 1) (omega arith) in
             subst (λ (t : ℕ × Option PlainPage). PageWordIs plan owners words t.0 t.1) (λ i. (sym named i, sym found.1 i))
-            (names_its_row plan owners words (number + 1) (page_words found.0) bounded ((omega arith, omega arith), free) (λ i inside few. laid.page_rows number found.0 found.1 i inside))
+            (names_its_page plan owners words (number + 1) found.0 bounded ((omega arith, omega arith), free) (λ i inside few. laid.page_rows number found.0 found.1 i inside))
         | inr more ↦ subst (PageWordIs plan owners words (slice_index words number)) (sym (no_page_past store number (omega arith))) (laid.no_more number (omega arith) (omega arith))
       ]
 

@@ -1,10 +1,8 @@
 -- A session's call exchanges its page numbers and the spare ones: all are the seat's as before.
-use Rattle.std.proofs.Common.{◌≡◌, ℕ, suc, ◌+◌, ◌≤◌, List, get_or, set, refl, sym, ap, ◌∙◌, subst, arith}
-use Rattle.std.specs.Prelude.{slice_index}
+use Rattle.std.proofs.Common.{◌≡◌, ℕ, ◌+◌, ◌≤◌, get_or, set, refl, sym, ◌∙◌, subst}
 use mathlib.Core.Option.{some, none}
 use lib.ListN.{get_elem?}
 use Rattle.atomic_table.specs.Table.{State, step, keeps, Allows}
-use Rattle.blink_rows.specs.{PlainCounts}
 use Rattle.blink_page.specs.declared.limits.TheConstants.{MAX_PAGE}
 use Rattle.blink_machine.specs.TreeState.{TreeState}
 use Rattle.blink_machine.proofs.Offered.{step_law}
@@ -12,7 +10,7 @@ use Rattle.blink_live.specs.declared.view.Plan.{Plan}
 use Rattle.blink_live.specs.declared.view.Role.TheVariants.{Keeper, Pass}
 use Rattle.blink_live.specs.declared.view.View.{View}
 use Rattle.blink_live.specs.Rule.{IsInRole, IsTable, IsTableAt, Knows}
-use Rattle.blink_live.specs.Spares.{ExchangesNumbers, HasAny, exchanges, exchanges_numbers}
+use Rattle.blink_live.specs.Spares.{HasAny, exchanges, exchanges_numbers}
 use Rattle.blink_live.specs.Views.{SeatState}
 use Rattle.blink_live.specs.Words.{AreNumbersIn}
 use Rattle.blink_live.proofs.reuse.ReuseStaysSafe.{hand_stays, reuse_beside, same_reads}

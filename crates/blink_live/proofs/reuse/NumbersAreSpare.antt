@@ -1,5 +1,5 @@
 -- A new page whose number was a spare one: the call's numbers and the spare ones are exchanged, and again once the page is written.
-use Rattle.std.proofs.Common.{◌≡◌, ◌↔◌, ℕ, suc, ◌+◌, ◌<◌, ◌≤◌, Option, Some, None, List, refl, sym, ap, ◌∙◌, subst, arith}
+use Rattle.std.proofs.Common.{◌≡◌, ℕ, Option, Some, None, List, refl, sym, ap, ◌∙◌, subst, arith}
 use Rattle.atomic_table.specs.declared.Seat.{Seat}
 use Rattle.blink_batch.specs.{key_of}
 use Rattle.blink_rows.specs.declared.span.Span.{Span}

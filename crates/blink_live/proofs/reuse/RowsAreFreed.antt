@@ -6,7 +6,7 @@ use lib.ListN.{get_elem?}
 use lib.Seq.{set-get_or}
 use Rattle.atomic_table.specs.Table.{State, step, keeps, Allows}
 use Rattle.blink_page.specs.{PlainPage}
-use Rattle.blink_rows.specs.{page_words, prime_words, row_in}
+use Rattle.blink_rows.specs.{prime_words, row_in}
 use Rattle.blink_machine.specs.TreeState.{TreeState}
 use Rattle.blink_live.specs.declared.view.Plan.{Plan}
 use Rattle.blink_live.specs.declared.view.Role.TheVariants.{Keeper, Pass}
@@ -27,7 +27,7 @@ use Rattle.blink_live.proofs.table.AccountsStay.{accounts_stay}
 use Rattle.blink_live.proofs.table.CallsOfSeats.{call_still}
 use Rattle.blink_live.proofs.table.LooksStay.{looks_stay}
 use Rattle.blink_live.proofs.table.MapsWithOneChange.{put_here, put_else}
-use Rattle.blink_live.proofs.table.RowsAreNamed.{names_still, no_row_in}
+use Rattle.blink_live.proofs.table.RowsAreNamed.{names_still, no_row_in, page_still_named}
 use Rattle.blink_live.proofs.table.SeatsThatStay.{views_stay, counted_stays}
 use Rattle.blink_live.proofs.table.SparesOfSeats.{spare_still}
 
@@ -78,7 +78,7 @@ module _ (plan : Plan) (s : State ℕ View) (tree_state : TreeState) (h : IsTabl
 
   page_still : (word : ℕ) (page : Option PlainPage) → PageWordIs plan h.owners s.words word page → PageWordIs plan new s.words word page
   page_still word None is = is
-  page_still word (Some page) is = names_still plan h.owners new s.words word (page_words page) (published_still (row_in word) is.published.1) is
+  page_still word (Some page) is = page_still_named plan h.owners new s.words word page (published_still (row_in word) is.published.1) is
 
   -- ---- no page word names it, and nobody reads it
 
@@ -93,21 +93,21 @@ module _ (plan : Plan) (s : State ℕ View) (tree_state : TreeState) (h : IsTabl
   held_unowned : (seat : ℕ) (u : View) → get_elem? s.views seat ≡ some u → (r : ℕ) (content : List ℕ) → HoldsRow u r content → h.owners.row r ≡ 0
   held_unowned seat u there r content is =
       let reads = (h.views seat u there).reads in
-      ⊎_elim (λ (now : u.reads ≡ Some (r, content)). (subst (ReadsRow plan h.owners s.words) now reads.0).0.1)
+      ⊎_elim (λ (now : u.reads ≡ Some (r, content)). (subst (λ (x : Option (ℕ × List ℕ)). ReadsRow plan h.owners s.words x u.behind) now reads.0).0.1)
       (λ (noted : HasNoted u.look r). subst (λ (x : ℕ). h.owners.row x ≡ 0) noted.3 (reads.1 noted.0 noted.1 noted.2).unowned) is
 
   -- ---- what the seats know
 
-  reads_then : (reads : Option (ℕ × List ℕ)) → ReadsRow plan h.owners s.words reads → ReadsRow plan new s.words reads
-  reads_then None is = is
-  reads_then (Some (r, content)) is = ((is.0.0, published_still r is.0.1), is.1)
+  reads_then : (reads : Option (ℕ × List ℕ)) (behind : List ℕ) → ReadsRow plan h.owners s.words reads behind → ReadsRow plan new s.words reads behind
+  reads_then None behind is = is
+  reads_then (Some (r, content)) behind is = ((is.0.0, published_still r is.0.1), is.1)
 
   looks_then : (u : View) → HasLooked plan h.owners.row s.words tree_state.fan tree_state.prime tree_state.pages u.look → HasLooked plan whose s.words tree_state.fan tree_state.prime tree_state.pages u.look
   looks_then u = looks_stay plan h.owners.row whose s.words s.words tree_state.fan tree_state.fan tree_state.prime tree_state.prime tree_state.pages tree_state.pages u.look
       (λ number word has row_in_range unowned. published_still (row_in word) unowned) (λ number in_chain. in_chain) (λ number word least few unowned is. (is, refl))
 
   reads_all : (u : View) → Reads plan h.owners s.words tree_state u → Reads plan new s.words tree_state u
-  reads_all u is = (reads_then u.reads is.0, looks_then u is.1)
+  reads_all u is = (reads_then u.reads u.behind is.0, looks_then u is.1)
 
   others_know : (seat : ℕ) (u : View) → seat ≢ id → get_elem? s.views seat ≡ some u → Knows plan new s.words tree_state h.log seat u
   others_know seat u apart there = let was = h.views seat u there in row_owners_knows plan h.owners whose s.words tree_state h.log seat u (λ r. owns seat r apart) (reads_all u was.reads) was

@@ -8,7 +8,7 @@ use lib.ListN.{get_elem?}
 use lib.Seq.{set-get_or}
 use Rattle.atomic_table.specs.Table.{State, step, keeps, Allows}
 use Rattle.blink_page.specs.{PlainPage}
-use Rattle.blink_rows.specs.{page_words, prime_words, row_in}
+use Rattle.blink_rows.specs.{prime_words, row_in}
 use Rattle.blink_machine.specs.TreeState.{TreeState}
 use Rattle.blink_machine.proofs.Offered.{step_law}
 use Rattle.blink_live.specs.declared.view.Change.{Change}
@@ -31,7 +31,7 @@ use Rattle.blink_live.proofs.table.AccountsStay.{accounts_stay}
 use Rattle.blink_live.proofs.table.CallsOfSeats.{call_still}
 use Rattle.blink_live.proofs.table.LoadsKeepTable.{moved, load_keeps_with}
 use Rattle.blink_live.proofs.table.LooksStay.{looks_stay}
-use Rattle.blink_live.proofs.table.RowsAreNamed.{names_still}
+use Rattle.blink_live.proofs.table.RowsAreNamed.{names_still, page_still_named}
 use Rattle.blink_live.proofs.table.MapsWithOneChange.{put_here, put_else, put_same}
 use Rattle.blink_live.proofs.table.SeatsThatStay.{views_stay, counted_stays}
 use Rattle.blink_live.proofs.table.SparesOfSeats.{spare_still}
@@ -118,12 +118,12 @@ module _ (plan : Plan) (s : State ℕ View) (tree_state : TreeState) (h : IsTabl
 
   page_still : (number : ℕ) → number < plan.counts.numbers → (page : Option PlainPage) → PageWordIs plan h.owners s.words (slice_index s.words number) page → PageWordIs plan new s.words (slice_index s.words number) page
   page_still number few None is = is
-  page_still number few (Some page) is = names_still plan h.owners new s.words (slice_index s.words number) (page_words page) (named_still number few is.published.1) is
+  page_still number few (Some page) is = page_still_named plan h.owners new s.words (slice_index s.words number) page (named_still number few is.published.1) is
 
   -- nobody reads it
-  reads_then : (seat : ℕ) (u : View) → get_elem? s.views seat ≡ some u → (reads : Option (ℕ × List ℕ)) → u.reads ≡ reads → ReadsRow plan h.owners s.words reads → ReadsRow plan new s.words reads
-  reads_then seat u there None same is = is
-  reads_then seat u there (Some (r, content)) same is =
+  reads_then : (seat : ℕ) (u : View) → get_elem? s.views seat ≡ some u → (reads : Option (ℕ × List ℕ)) (behind : List ℕ) → u.reads ≡ reads → ReadsRow plan h.owners s.words reads behind → ReadsRow plan new s.words reads behind
+  reads_then seat u there None behind same is = is
+  reads_then seat u there (Some (r, content)) behind same is =
       ((is.0.0, else_same r (λ e. (safe.agree id seat v u at there r content (inl same)).not_free (subst (Contains v.stock.free) (sym e) row_is_free)) ∙ is.0.1), is.1)
 
   -- nor has anybody noted it
@@ -133,7 +133,7 @@ module _ (plan : Plan) (s : State ℕ View) (tree_state : TreeState) (h : IsTabl
       (λ number word least few unowned is. (is, refl))
 
   reads_all : (seat : ℕ) (u : View) → get_elem? s.views seat ≡ some u → Reads plan h.owners s.words tree_state u → Reads plan new s.words tree_state u
-  reads_all seat u there is = (reads_then seat u there u.reads refl is.0, looks_then seat u there is.1)
+  reads_all seat u there is = (reads_then seat u there u.reads u.behind refl is.0, looks_then seat u there is.1)
 
   others_know : (seat : ℕ) (u : View) → get_elem? s.views seat ≡ some u → Knows plan new s.words tree_state h.log seat u
   others_know seat u there = let was = h.views seat u there in row_owners_knows plan h.owners whose s.words tree_state h.log seat u (owns seat) (reads_all seat u there was.reads) was

@@ -1,13 +1,13 @@
 -- A scan copies the entries of a leaf one after another.
-use Rattle.std.proofs.Common.{◌≡◌, ℕ, ◌+◌, ◌<◌, ◌≤◌, List, [], ◌∷◌, ◌++◌, length, get_or, take, refl, sym, ap, ◌∙◌, subst, arith, length-append}
+use Rattle.std.proofs.Common.{◌≡◌, ℕ, ◌+◌, ◌<◌, ◌≤◌, Option, List, [], ◌∷◌, ◌++◌, length, get_or, take, refl, sym, ap, ◌∙◌, subst, arith, length-append}
 use Rattle.std.specs.Prelude.{set}
 use Rattle.std.proofs.lemmas.List.{take_all, take_more}
 use Rattle.blink_batch.specs.declared.Entry.{Entry}
 use Rattle.blink_batch.specs.{entry}
-use Rattle.blink_page.specs.{least_above, value_at}
+use Rattle.blink_page.specs.{IsLawfulPage, PlainPage, least_above, value_at}
+use Rattle.blink_page.specs.declared.limits.TheConstants.{MAX_FAN}
 use Rattle.blink_live.specs.Scanning.{IsCopied, IsFilled}
-use Rattle.blink_live.specs.Seats.{ReadsLeaf}
-use Rattle.blink_live.specs.Views.{SeatState, known_of}
+use Rattle.blink_live.specs.Seats.{HasStates}
 use Rattle.blink_live.proofs.scanned.EntriesBetween.{between, between_with, between_without, copied_all, copied_to_end, copied_to_hi, copied_to_place, next_is_behind}
 use Rattle.blink_live.proofs.scanned.PlacesAreFilled.{filled_more, filled_none}
 
@@ -41,44 +41,44 @@ module _ (from hi : ℕ) (pairs : List (ℕ × ℕ)) (old now : List Entry) (pla
       ap (between from (hi + 1)) (take_more pairs place (0, 0) inside) ∙ between_without from (hi + 1) e.0 e.1 (take place pairs) (omega (arith, its_key, less)) in
       subst (λ (es : List Entry). IsFilled es old now × (filled ≡ length es)) (sym same) was
 
--- ---- the ends of the copy of the leaf that the seat reads
+-- ---- the ends of the copy of a leaf
 
-module _ (from row hi : ℕ) (me : SeatState) (reads : ReadsLeaf from row me) (old now : List Entry) (filled place : ℕ) (was : HasCopied from hi reads.leaf.entries old place now filled) where
+module _ (from hi : ℕ) (known : ℕ → Option ℕ) (leaf : PlainPage) (lawful : IsLawfulPage MAX_FAN leaf) (has : HasStates known from leaf) (old now : List Entry) (filled place : ℕ) (was : HasCopied from hi leaf.entries old place now filled) where
   abbrev pub IsCopiedTo : ℕ → Type 0
-  IsCopiedTo stop = (entries : List Entry) × IsFilled entries old now × (filled ≡ length entries) × IsCopied (known_of me.0) from stop entries
+  IsCopiedTo stop = (entries : List Entry) × IsFilled entries old now × (filled ≡ length entries) × IsCopied known from stop entries
 
   abbrev Pairs : List (ℕ × ℕ)
-  Pairs = reads.leaf.entries
+  Pairs = leaf.entries
 
   abbrev First : List Entry
   First = between from (hi + 1) (take place Pairs)
 
-  states : (key : ℕ) → from ≤ key → key < reads.leaf.high + 1 → value_at key Pairs ≡ known_of me.0 key
-  states key low high = reads.states key low (omega (arith, high))
+  states : (key : ℕ) → from ≤ key → key < leaf.high + 1 → value_at key Pairs ≡ known key
+  states key low high = has.states key low (omega (arith, high))
 
   -- an entry behind `hi`
   pub ends_at_hi : (key : ℕ) → place < length Pairs → key ≡ (get_or Pairs place (0, 0)).0 → hi < key → IsCopiedTo (hi + 1)
   ends_at_hi key inside its_key behind =
-      (First, was.0, was.1, copied_to_hi (known_of me.0) from hi (least_above reads.leaf.floor) (reads.leaf.high + 1) Pairs reads.reads.lawful.keys_rise states place inside (omega (arith, its_key, behind)))
+      (First, was.0, was.1, copied_to_hi known from hi (least_above leaf.floor) (leaf.high + 1) Pairs lawful.keys_rise states place inside (omega (arith, its_key, behind)))
 
   -- an entry for which there is no place
   pub ends_at_place : (key : ℕ) → place < length Pairs → key ≡ (get_or Pairs place (0, 0)).0 → key ≤ hi → IsCopiedTo key
   ends_at_place key inside its_key low =
-      (First, was.0, was.1, copied_to_place (known_of me.0) from hi (least_above reads.leaf.floor) (reads.leaf.high + 1) Pairs reads.reads.lawful.keys_rise states place key inside its_key low)
+      (First, was.0, was.1, copied_to_place known from hi (least_above leaf.floor) (leaf.high + 1) Pairs lawful.keys_rise states place key inside its_key low)
 
   pub place_is_behind : (key : ℕ) → place < length Pairs → key ≡ (get_or Pairs place (0, 0)).0 → 1 ≤ filled → from < key
   place_is_behind key inside its_key some =
-      next_is_behind (known_of me.0) from hi (least_above reads.leaf.floor) (reads.leaf.high + 1) Pairs reads.reads.lawful.keys_rise states place key inside its_key (let count = was.1 in omega (arith, count, some))
+      next_is_behind known from hi (least_above leaf.floor) (leaf.high + 1) Pairs lawful.keys_rise states place key inside its_key (let count = was.1 in omega (arith, count, some))
 
   -- the leaf's end
   all_first : length Pairs ≤ place → First ≡ between from (hi + 1) Pairs
   all_first over = ap (between from (hi + 1)) (take_all place Pairs over)
 
-  pub ends_at_high : (high : ℕ) → length Pairs ≤ place → high ≡ reads.leaf.high → high < hi → IsCopiedTo (high + 1)
+  pub ends_at_high : (high : ℕ) → length Pairs ≤ place → high ≡ leaf.high → high < hi → IsCopiedTo (high + 1)
   ends_at_high high over is low =
-      let copied = copied_to_end (known_of me.0) from hi (least_above reads.leaf.floor) (reads.leaf.high + 1) Pairs reads.reads.lawful.keys_rise states (omega (arith, is, low)) in
-      (First, was.0, was.1, subst (λ (x : ℕ × List Entry). IsCopied (known_of me.0) from (x.0 + 1) x.1) (λ i. (sym is i, sym (all_first over) i)) copied)
+      let copied = copied_to_end known from hi (least_above leaf.floor) (leaf.high + 1) Pairs lawful.keys_rise states (omega (arith, is, low)) in
+      (First, was.0, was.1, subst (λ (x : ℕ × List Entry). IsCopied known from (x.0 + 1) x.1) (λ i. (sym is i, sym (all_first over) i)) copied)
 
-  pub ends_with_leaf : (high : ℕ) → length Pairs ≤ place → high ≡ reads.leaf.high → hi ≤ high → IsCopiedTo (hi + 1)
+  pub ends_with_leaf : (high : ℕ) → length Pairs ≤ place → high ≡ leaf.high → hi ≤ high → IsCopiedTo (hi + 1)
   ends_with_leaf high over is low =
-      (First, was.0, was.1, subst (IsCopied (known_of me.0) from (hi + 1)) (sym (all_first over)) (copied_all (known_of me.0) from hi (least_above reads.leaf.floor) (reads.leaf.high + 1) Pairs reads.reads.lawful.keys_rise states (omega (arith, is, low))))
+      (First, was.0, was.1, subst (IsCopied known from (hi + 1)) (sym (all_first over)) (copied_all known from hi (least_above leaf.floor) (leaf.high + 1) Pairs lawful.keys_rise states (omega (arith, is, low))))

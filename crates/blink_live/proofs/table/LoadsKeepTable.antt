@@ -29,10 +29,10 @@ moved tree_state worker operation = record tree_state { machines = put tree_stat
 
 module _ (plan : Plan) (s : State ℕ View) (tree_state : TreeState) (h : IsTableAt plan s tree_state) (id word : ℕ) (v w : View) (at : get_elem? s.views id ≡ some v) where
   abbrev pub loaded : View
-  loaded = record v { operation = w.operation; descent_bound = w.descent_bound; reads = w.reads; seen = w.seen }
+  loaded = record v { operation = w.operation; descent_bound = w.descent_bound; reads = w.reads; behind = w.behind; seen = w.seen }
 
   -- the seat knows what it knew, but for its operation, what it reads and what it has seen
-  pub load_knows_in : IsInRole plan h.owners h.log id loaded v.role → (IsCommon plan → v.role ≡ Pass → (m : PlainMachine) → w.operation ≡ Some m → 1 ≤ v.busy) → SameBesideReads v w → IsBoundedWay tree_state w → ReadsRow plan h.owners s.words w.reads → IsPrefix w.seen h.log
+  pub load_knows_in : IsInRole plan h.owners h.log id loaded v.role → (IsCommon plan → v.role ≡ Pass → (m : PlainMachine) → w.operation ≡ Some m → 1 ≤ v.busy) → SameBesideReads v w → IsBoundedWay tree_state w → ReadsRow plan h.owners s.words w.reads w.behind → IsPrefix w.seen h.log
       → Knows plan h.owners s.words (moved tree_state id w.operation) h.log id w
   load_knows_in in_role busy same bounded reads saw =
       let known = h.views id v at in
@@ -109,13 +109,13 @@ module _ (plan : Plan) (s : State ℕ View) (tree_state : TreeState) (h : IsTabl
   )
 
 module _ (plan : Plan) (s : State ℕ View) (tree_state : TreeState) (h : IsTableAt plan s tree_state) (id word : ℕ) (v w : View) (at : get_elem? s.views id ≡ some v) (role : v.role ≡ Pass) where
-  pub load_knows : ((k : PlainMachine) × (v.operation ≡ Some k)) → SameBesideReads v w → IsBoundedWay tree_state w → ReadsRow plan h.owners s.words w.reads → IsPrefix w.seen h.log
+  pub load_knows : ((k : PlainMachine) × (v.operation ≡ Some k)) → SameBesideReads v w → IsBoundedWay tree_state w → ReadsRow plan h.owners s.words w.reads w.behind → IsPrefix w.seen h.log
       → Knows plan h.owners s.words (moved tree_state id w.operation) h.log id w
   load_knows under =
       let kept = subst (IsInRole plan h.owners h.log id v) role (h.views id v at).in_role in
       load_knows_in plan s tree_state h id word v w at (subst (IsInRole plan h.owners h.log id (loaded plan s tree_state h id word v w at)) (sym role) kept) (λ common is m goes. ((h.views id v at).placed common is).busy under.0 under.1)
 
-  pub load_keeps : ((k : PlainMachine) × (v.operation ≡ Some k)) → Invariant (moved tree_state id w.operation) → SameBesideReads v w → IsBoundedWay tree_state w → ReadsRow plan h.owners s.words w.reads → IsPrefix w.seen h.log → IsPrefix v.seen w.seen
+  pub load_keeps : ((k : PlainMachine) × (v.operation ≡ Some k)) → Invariant (moved tree_state id w.operation) → SameBesideReads v w → IsBoundedWay tree_state w → ReadsRow plan h.owners s.words w.reads w.behind → IsPrefix w.seen h.log → IsPrefix v.seen w.seen
       → (IsCommon plan → MayReadOn plan s.words v w)
       → IsTable plan record { words = set s.words word (get_or s.words word 0); homes = s.homes; views = set s.views id w }
   load_keeps under invariant same bounded reads saw more may = load_keeps_with plan s tree_state h id word v w at invariant (ap (λ (x : View). x.role) same) (ap (λ (x : View). x.plan) same) (ap accounts_of same)

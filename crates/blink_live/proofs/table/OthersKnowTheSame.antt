@@ -1,5 +1,5 @@
 -- A step of one seat leaves what the others know.
-use Rattle.std.proofs.Common.{◌≡◌, ◌≢◌, ℕ, suc, ◌+◌, ◌<◌, ◌≤◌, Option, Some, None, List, inl, inr, sym, ap, ◌∙◌, arith}
+use Rattle.std.proofs.Common.{◌≡◌, ◌≢◌, ℕ, suc, ◌+◌, ◌<◌, ◌≤◌, Option, Some, None, List, ◌++◌, inl, inr, sym, ap, ◌∙◌, arith}
 use Rattle.std.specs.Prelude.{slice_index}
 use Rattle.std.proofs.lemmas.Bool.{cases_lt}
 use mathlib.Core.Option.{some, some-injective}
@@ -60,19 +60,26 @@ module _ (plan : Plan) (s : State ℕ View) (tree_state then : TreeState) (h : I
 
   pub word_names_still : (word : ℕ) (content : List ℕ) → Names plan h.owners s.words word content → Names plan new words word content
   word_names_still word content is =
-      let t = still_published (row_in word) is.published in record { published = t.0; begins = row_begins_still plan s.words words (row_in word) content t.1 is.begins; none_behind = is.none_behind }
+      let t = still_published (row_in word) is.published in record { published = t.0; begins = row_begins_still plan s.words words (row_in word) content t.1 is.begins }
 
   pub page_word_still : (word : ℕ) (page : Option PlainPage) → PageWordIs plan h.owners s.words word page → PageWordIs plan new words word page
   page_word_still word None is = is
-  page_word_still word (Some page) is = word_names_still word (page_words page) is
+  page_word_still word (Some page) is =
+      let t = still_published (row_in word) is.published in record {
+        base = is.base;
+        behind = is.behind;
+        published = t.0;
+        begins = row_begins_still plan s.words words (row_in word) (page_words is.base ++ is.behind) t.1 is.begins;
+        version = is.version;
+      }
 
-  pub reads_still : (reads : Option (ℕ × List ℕ)) → ReadsRow plan h.owners s.words reads → ReadsRow plan new words reads
-  reads_still None is = tt
-  reads_still (Some (row, content)) is = let t = still_published row is.0 in (t.0, row_begins_still plan s.words words row content t.1 is.1)
+  pub reads_still : (reads : Option (ℕ × List ℕ)) (behind : List ℕ) → ReadsRow plan h.owners s.words reads behind → ReadsRow plan new words reads behind
+  reads_still None behind is = tt
+  reads_still (Some (row, content)) behind is = let t = still_published row is.0 in (t.0, row_begins_still plan s.words words row (content ++ behind) t.1 is.1)
 
   pub seat_reads_still : (v : View) → Reads plan h.owners s.words tree_state v → Reads plan new words then v
   seat_reads_still v is = (
-    reads_still v.reads is.0,
+    reads_still v.reads v.behind is.0,
     looks_stay plan h.owners.row new.row s.words words tree_state.fan then.fan tree_state.prime then.prime tree_state.pages then.pages v.look (λ number word has in_range unowned. (still_published (row_in word) (in_range, unowned)).0.1) leaves.in_chain leaves.named is.1,
   )
 

@@ -5,7 +5,7 @@ use mathlib.Core.Option.{some}
 use lib.ListN.{get_elem?}
 use Rattle.atomic_table.specs.Table.{State}
 use Rattle.blink_page.specs.{PlainPage}
-use Rattle.blink_rows.specs.{page_words, prime_words, row_in}
+use Rattle.blink_rows.specs.{prime_words, row_in}
 use Rattle.blink_machine.specs.TreeState.{TreeState}
 use Rattle.blink_live.specs.declared.view.Change.{Change}
 use Rattle.blink_live.specs.declared.view.Plan.{Plan}
@@ -20,7 +20,7 @@ use Rattle.blink_live.specs.Views.{IsCommon}
 use Rattle.blink_live.proofs.table.CallsOfSeats.{call_still}
 use Rattle.blink_live.proofs.table.LooksStay.{looks_stay}
 use Rattle.blink_live.proofs.table.SparesOfSeats.{spare_still}
-use Rattle.blink_live.proofs.table.RowsAreNamed.{names_still}
+use Rattle.blink_live.proofs.table.RowsAreNamed.{names_still, page_still_named}
 
 -- what was published is
 abbrev pub StaysPublished : Owners → Owners → Type 0
@@ -37,15 +37,15 @@ pub record StillOwns (old new : Owners) (seat : ℕ) : Type 0 where
 module _ (plan : Plan) (old new : Owners) (words : List ℕ) (log : List Change) (published : StaysPublished old new) where
   page_still : (word : ℕ) (page : Option PlainPage) → PageWordIs plan old words word page → PageWordIs plan new words word page
   page_still word None is = is
-  page_still word (Some page) is = names_still plan old new words word (page_words page) (published (row_in word) is.published.1) is
+  page_still word (Some page) is = page_still_named plan old new words word page (published (row_in word) is.published.1) is
 
-  pub reads_still : (reads : Option (ℕ × List ℕ)) → ReadsRow plan old words reads → ReadsRow plan new words reads
-  reads_still None is = is
-  reads_still (Some (row, content)) is = ((is.0.0, published row is.0.1), is.1)
+  pub reads_still : (reads : Option (ℕ × List ℕ)) (behind : List ℕ) → ReadsRow plan old words reads behind → ReadsRow plan new words reads behind
+  reads_still None behind is = is
+  reads_still (Some (row, content)) behind is = ((is.0.0, published row is.0.1), is.1)
 
   pub seat_reads_still : (tree_state : TreeState) (v : View) → Reads plan old words tree_state v → Reads plan new words tree_state v
   seat_reads_still tree_state v is = (
-    reads_still v.reads is.0,
+    reads_still v.reads v.behind is.0,
     looks_stay plan old.row new.row words words tree_state.fan tree_state.fan tree_state.prime tree_state.prime tree_state.pages tree_state.pages v.look (λ number word has in_range. published (row_in word)) (λ number in_chain. in_chain)
         (λ number word least few unowned is. (is, refl)) is.1,
   )

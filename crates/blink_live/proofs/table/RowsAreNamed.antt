@@ -1,10 +1,13 @@
 -- Page words that name rows.
-use Rattle.std.proofs.Common.{◌≡◌, ℕ, ◌≤◌, List, sym, ap, ◌∙◌, subst, arith}
-use Rattle.blink_rows.specs.{AreBounded, row_in}
-use Rattle.blink_rows.proofs.Offered.{no_records_of_row, row_of_row, rows_are_below}
+use Rattle.std.proofs.Common.{◌≡◌, ℕ, ◌≤◌, List, [], sym, ap, ◌∙◌, subst, arith}
+use mathlib.Core.List.{append-nil}
+use Rattle.blink_page.specs.{PlainPage}
+use Rattle.blink_rows.specs.{AreBounded, page_words, row_in}
+use Rattle.blink_rows.proofs.Offered.{row_of_row, rows_are_below}
 use Rattle.blink_live.specs.declared.view.Plan.{Plan}
-use Rattle.blink_live.specs.Rule.{IsPublished, Names, Owners}
+use Rattle.blink_live.specs.Rule.{IsPublished, Names, NamesPage, Owners}
 use Rattle.blink_live.specs.Words.{RowBegins}
+use Rattle.blink_live.proofs.table.VersionsOfPages.{unlogged}
 
 -- 0 names no row
 pub no_row_in_0 : row_in 0 ≡ 0
@@ -22,9 +25,22 @@ names_its_row plan owners words row content bounded published begins =
     let same : row ≡ row_in row = sym (row_names_itself plan row bounded published.0.1) in record {
       published = subst (IsPublished plan owners) same published;
       begins = subst (λ (r : ℕ). RowBegins plan.counts words r content) same begins;
-      none_behind = no_records_of_row row (rows_are_below plan.counts row bounded published.0.1);
+    }
+
+-- and it counts no records, so the page stands there alone
+pub names_its_page : (plan : Plan) (owners : Owners) (words : List ℕ) (row : ℕ) (page : PlainPage) → AreBounded plan.counts → IsPublished plan owners row → RowBegins plan.counts words row (page_words page) → NamesPage plan owners words row page
+names_its_page plan owners words row page bounded published begins =
+    let names = names_its_row plan owners words row (page_words page) bounded published begins in record {
+      base = page;
+      behind = [];
+      published = names.published;
+      begins = subst (RowBegins plan.counts words (row_in row)) (sym (append-nil (page_words page))) names.begins;
+      version = unlogged row page (rows_are_below plan.counts row bounded published.0.1);
     }
 
 -- a word that named a row names it under other owners, if they leave the row published
 pub names_still : (plan : Plan) (old new : Owners) (words : List ℕ) (word : ℕ) (content : List ℕ) → new.row (row_in word) ≡ 0 → Names plan old words word content → Names plan new words word content
-names_still plan old new words word content unowned is = record { published = (is.published.0, unowned); begins = is.begins; none_behind = is.none_behind }
+names_still plan old new words word content unowned is = record { published = (is.published.0, unowned); begins = is.begins }
+
+pub page_still_named : (plan : Plan) (old new : Owners) (words : List ℕ) (word : ℕ) (page : PlainPage) → new.row (row_in word) ≡ 0 → NamesPage plan old words word page → NamesPage plan new words word page
+page_still_named plan old new words word page unowned is = record { base = is.base; behind = is.behind; published = (is.published.0, unowned); begins = is.begins; version = is.version }

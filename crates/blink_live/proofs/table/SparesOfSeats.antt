@@ -1,5 +1,5 @@
 -- A seat's spare page numbers stay its own.
-use Rattle.std.proofs.Common.{◌≡◌, ℕ, ◌<◌, ◌≤◌, None, arith}
+use Rattle.std.proofs.Common.{◌≡◌, ℕ, ◌≤◌, None, arith}
 use Rattle.blink_rows.specs.declared.span.Span.{Span}
 use Rattle.blink_machine.specs.TreeState.{TreeState}
 use Rattle.blink_live.specs.declared.view.Plan.{Plan}

@@ -1,8 +1,8 @@
 use Rattle.blink_live.proofs.found.FindsOfSeveral.{can_find, searched_more, searched_once, searched_seat}
 use Rattle.blink_live.proofs.live.Live.come_along.Goals as goal
 
-pub come_to_leaf-row-requires-clause-can_begin : goal.come_to_leaf-row-requires-clause-can_begin
-come_to_leaf-row-requires-clause-can_begin c = can_find c.args.key c.args.seat.now.me.0 c.requires.idle
+pub come_to_leaf-word-requires-clause-can_begin : goal.come_to_leaf-word-requires-clause-can_begin
+come_to_leaf-word-requires-clause-can_begin c = can_find c.args.key c.args.seat.now.me.0 c.requires.idle
 
 pub come_down-requires-2-clause-seat : goal.come_down-requires-2-clause-seat
 come_down-requires-2-clause-seat c =
@@ -23,5 +23,5 @@ returns-clause-searched c = searched_more c.args.seat.now.me c.follow.new.seat.m
 
 pub returns-then-alone-clause-searched : goal.returns-then-alone-clause-searched
 returns-then-alone-clause-searched c =
-    let come = c.come_to_leaf-row.ensures in
-    searched_once c.args.key c.args.seat.now.me c.come_to_leaf-row.new.seat.me c.requires.idle come.saw come.own come.idle come.same come.same_slots
+    let come = c.come_to_leaf-word.ensures in
+    searched_once c.args.key c.args.seat.now.me c.come_to_leaf-word.new.seat.me c.requires.idle come.saw come.own come.idle come.same come.same_slots

@@ -1,4 +1,4 @@
-use Rattle.std.proofs.Common.{◌≤◌, arith}
+use Rattle.std.proofs.Common.{arith}
 use Rattle.blink_live.specs.Views.{plan_of}
 use Rattle.blink_live.proofs.reuse.NumbersAreExchanged.{exchanges_numbers_at}
 use Rattle.blink_live.proofs.live.Live.exchange_numbers.Goals as goal

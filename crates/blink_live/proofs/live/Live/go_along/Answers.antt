@@ -1,5 +1,4 @@
-use Rattle.std.proofs.Common.{ℕ, sym, subst, arith}
-use Rattle.blink_live.specs.Along.{GoesAlong}
+use Rattle.std.proofs.Common.{sym, subst, arith}
 use Rattle.blink_live.specs.Views.{IsCommon, plan_of}
 use Rattle.blink_live.proofs.looked.LeavesAreFollowed.{goes_along_at}
 use Rattle.blink_live.proofs.looked.SeatsGoAlong.{noted_in_plan, plan_counts}
@@ -15,6 +14,3 @@ load-requires c =
           (λ common. c.requires.idle.announced (subst IsCommon (sym c.requires.seat.same_plan) common))
           (noted_in_plan live.counts c.args.seat.now.me.0.plan.counts c.args.seat.now.me.0.look c.args.number (sym (plan_counts live c.args.seat.now.table_id c.args.seat.now.me c.requires.seat)) c.requires.leaf),
     )
-
-pub returns-clause-along : goal.returns-clause-along
-returns-clause-along c = subst (λ (row : ℕ). GoesAlong c.args.seat.now.me row c.load.new.seat.me) (sym c.row_in.ensures.row) c.load.ensures.2

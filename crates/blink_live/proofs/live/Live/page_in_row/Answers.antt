@@ -1,99 +1,74 @@
-use Rattle.std.proofs.Common.{◌≡◌, ℕ, ◌<◌, Option, List, ◌++◌, ◌∷◌, [], length, take, get_or, refl, sym, ap, ◌∙◌, subst, arith}
-use Rattle.std.proofs.lemmas.List.{take_more, take_all}
-use Rattle.blink_page.specs.{PlainPage, IsLawfulPage}
+use Rattle.std.proofs.Common.{◌≡◌, ℕ, ◌+◌, ◌*◌, ◌<◌, ◌≤◌, length, take, sym, ap, ◌∙◌, subst, arith}
+use Rattle.std.proofs.lemmas.List.{take_all}
+use Rattle.blink_page.specs.{PlainPage}
 use Rattle.blink_page.specs.declared.limits.TheConstants.{MAX_FAN}
-use Rattle.blink_rows.specs.{page_words}
-use Rattle.blink_live.specs.Views.{SeatState}
-use Rattle.blink_live.proofs.found.EntriesInRow.{key_inside, key_word, value_inside, value_word}
+use Rattle.blink_rows.specs.{Fits, page_after, page_with}
+use Rattle.blink_rows.specs.declared.log.Record.{Record}
+use Rattle.blink_rows.specs.declared.naming.Records.{Records}
+use Rattle.blink_live.proofs.found.RecordsInRow.{all_inside, count_is, counted_there, fits_there, key_loaded, one_applied, pointer_loaded, record_at, same_record}
+use Rattle.blink_live.proofs.found.VersionsAreRead.{base_in}
 use Rattle.blink_live.proofs.live.Live.page_in_row.Goals as goal
 
-pub loop-place-init : goal.loop-place-init
-loop-place-init c =
-    let start = c.row_place-start.ensures.start in
-    let at_1 = c.load_word-level.ensures.same in
-    let at_2 = c.load_word-has_floor.ensures.same in
-    let at_3 = c.load_word-floor.ensures.same in
-    let at_4 = c.load_word-high.ensures.same in
-    let at_5 = c.load_word-right.ensures.same in
-    let at_6 = c.load_word-count.ensures.same in
-    let f : SeatState → _ = λ x. x.0.reads in record {
-      same = (
-        at_6.0 ∙ at_5.0 ∙ at_4.0 ∙ at_3.0 ∙ at_2.0 ∙ at_1.0,
-        at_6.1 ∙ at_5.1 ∙ at_4.1 ∙ at_3.1 ∙ at_2.1 ∙ at_1.1,
-        at_6.2 ∙ at_5.2 ∙ at_4.2 ∙ at_3.2 ∙ at_2.2 ∙ at_1.2,
-      );
-      head = λ page reads.
-          let words = page_words page in
-          let r_1 = ap f at_1.2 ∙ reads.reads in
-          let r_2 = ap f at_2.2 ∙ r_1 in
-          let r_3 = ap f at_3.2 ∙ r_2 in
-          let r_4 = ap f at_4.2 ∙ r_3 in
-          let r_5 = ap f at_5.2 ∙ r_4 in (
-            c.load_word-level.ensures.word c.args.row words start reads.reads (omega arith),
-            c.load_word-has_floor.ensures.word c.args.row words start r_1 (omega arith),
-            c.load_word-floor.ensures.word c.args.row words start r_2 (omega arith),
-            c.load_word-high.ensures.word c.args.row words start r_3 (omega arith),
-            c.load_word-right.ensures.word c.args.row words start r_4 (omega arith),
-            c.load_word-count.ensures.word c.args.row words start r_5 (omega arith),
-          );
-      read = λ page reads. c.new-items.ensures;
+-- the words of a record stand in the row
+place_inside : (loaded_base from older count base many : ℕ) → loaded_base ≡ base → count ≡ many → from ≡ older → older < count → 6 + 2 * (base + many) ≤ 70 → 6 + 2 * (loaded_base + from) + 1 < 70
+place_inside loaded_base from older count base many base_is count_is from_is one room = omega (arith, base_is, count_is, from_is, one, room)
+
+pub load_word-key-requires-clause-place : goal.load_word-key-requires-clause-place
+load_word-key-requires-clause-place c =
+    let is = c.requires.page.1 in
+    let inside = place_inside c.len-base.result c.from.result c.loop-older.older c.records_in-records.result.count _ _ (c.len-base.ensures.value ∙ ap (λ (p : PlainPage). length p.entries) (c.page.view_is ∙ c.base_in_row-page.ensures.page is.base (base_in is c.row_in-row.ensures.row)))
+    (ap (λ (r : Records). r.count) c.records_in-records.ensures.records ∙ sym (count_is is)) c.from.ensures c.loop-older-test.true (all_inside is) in
+    omega (arith, inside)
+
+pub load_word-pointer-requires-clause-place : goal.load_word-pointer-requires-clause-place
+load_word-pointer-requires-clause-place c =
+    let is = c.requires.page.1 in
+    let inside = place_inside c.len-base.result c.from.result c.loop-older.older c.records_in-records.result.count _ _ (c.len-base.ensures.value ∙ ap (λ (p : PlainPage). length p.entries) (c.page.view_is ∙ c.base_in_row-page.ensures.page is.base (base_in is c.row_in-row.ensures.row)))
+    (ap (λ (r : Records). r.count) c.records_in-records.ensures.records ∙ sym (count_is is)) c.from.ensures c.loop-older-test.true (all_inside is) in
+    omega (arith, inside)
+
+pub apply-requires : goal.apply-requires
+apply-requires c =
+    let page = c.requires.page.0 in
+    let is = c.requires.page.1 in
+    let older = c.loop-older.older in
+    let many : c.records_in-records.result.count ≡ length is.version.records = ap (λ (r : Records). r.count) c.records_in-records.ensures.records ∙ sym (count_is is) in
+    let inside : older < length is.version.records = let test = c.loop-older-test.true in omega (arith, many, test) in
+    let at = record_at is.version.records older inside in
+    let base : c.len-base.result ≡ length is.base.entries = c.len-base.ensures.value ∙ ap (λ (p : PlainPage). length p.entries) (c.page.view_is ∙ c.base_in_row-page.ensures.page is.base (base_in is c.row_in-row.ensures.row)) in
+    let from = c.from.ensures in
+    let same = c.loop-older.invariant.same.2 in
+    let key : c.load_word-key.result ≡ at.0.key = key_loaded c.args.self.now.counts is same c.row_place-start.ensures.start c.row_in-row.ensures.row older at.0 at.1 _ c.load_word-key.result (omega (arith, base, from)) c.load_word-key.ensures.behind in
+    let pointer : c.load_word-pointer.result ≡ at.0.pointer = pointer_loaded c.args.self.now.counts is (c.load_word-key.ensures.same.2 ∙ same) c.row_place-start.ensures.start c.row_in-row.ensures.row older at.0 at.1 _ c.load_word-pointer.result (omega (arith, base, from)) c.load_word-pointer.ensures.behind in
+    let kind = c.kind-kind.ensures at.1.older at.0 at.1.newer (counted_there is older at.0 at.1 ∙ sym c.records_in-records.ensures.records) at.1.many in
+    let it = same_record c.kind-kind.result c.load_word-key.result c.load_word-pointer.result at.0 kind key pointer in
+    let applied = c.loop-older.invariant.applied page is in
+    subst (λ (x : PlainPage × Record). Fits MAX_FAN x.0 x.1) (λ i. (sym applied i, sym it i)) (fits_there is older inside)
+
+pub loop-older-preserved : goal.loop-older-preserved
+loop-older-preserved c =
+    let same = c.loop-older.invariant.same in
+    let first = c.load_word-key.ensures.same in
+    let second = c.load_word-pointer.ensures.same in record {
+      same = (second.0 ∙ first.0 ∙ same.0, second.1 ∙ first.1 ∙ same.1, second.2 ∙ first.2 ∙ same.2);
+      applied = λ page is.
+          let older = c.loop-older.older in
+          let many : c.records_in-records.result.count ≡ length is.version.records = ap (λ (r : Records). r.count) c.records_in-records.ensures.records ∙ sym (count_is is) in
+          let inside : older < length is.version.records = let test = c.loop-older-test.true in omega (arith, many, test) in
+          let at = record_at is.version.records older inside in
+          let base : c.len-base.result ≡ length is.base.entries = c.len-base.ensures.value ∙ ap (λ (p : PlainPage). length p.entries) (c.page.view_is ∙ c.base_in_row-page.ensures.page is.base (base_in is c.row_in-row.ensures.row)) in
+          let from = c.from.ensures in
+          let key : c.load_word-key.result ≡ at.0.key = key_loaded c.args.self.now.counts is same.2 c.row_place-start.ensures.start c.row_in-row.ensures.row older at.0 at.1 _ c.load_word-key.result (omega (arith, base, from)) c.load_word-key.ensures.behind in
+          let pointer : c.load_word-pointer.result ≡ at.0.pointer = pointer_loaded c.args.self.now.counts is (first.2 ∙ same.2) c.row_place-start.ensures.start c.row_in-row.ensures.row older at.0 at.1 _ c.load_word-pointer.result (omega (arith, base, from)) c.load_word-pointer.ensures.behind in
+          let kind = c.kind-kind.ensures at.1.older at.0 at.1.newer (counted_there is older at.0 at.1 ∙ sym c.records_in-records.ensures.records) at.1.many in
+          let it = same_record c.kind-kind.result c.load_word-key.result c.load_word-pointer.result at.0 kind key pointer in
+          c.apply.ensures ∙ ((λ i. page_after (c.loop-older.invariant.applied page is i) (it i)) ∙ one_applied is older inside);
     }
-
-pub loop-place-preserved : goal.loop-place-preserved
-loop-place-preserved c =
-    let same = c.loop-place.invariant.same in
-    let at_key = c.load_word-key.ensures.same in
-    let at_value = c.load_word.ensures.same in
-    let start = c.row_place-start.ensures.start in
-    let f : SeatState → _ = λ x. x.0.reads in record {
-      same = (at_value.0 ∙ at_key.0 ∙ same.0, at_value.1 ∙ at_key.1 ∙ same.1, at_value.2 ∙ at_key.2 ∙ same.2);
-      head = c.loop-place.invariant.head;
-      read = λ page reads.
-          let words = page_words page in
-          let place = c.loop-place.place in
-          let count : c.load_word-count.result ≡ length page.entries = (c.loop-place.invariant.head page reads).5 in
-          let here = ap f same.2 ∙ reads.reads in
-          let inside : place < length page.entries = omega (arith, count, c.loop-place-test.true) in
-          let key : c.load_word-key.result ≡ (get_or page.entries place (0, 0)).0 = c.load_word-key.ensures.word c.args.row words start here (key_inside page place inside) ∙ key_word page place _ refl in
-          let value : c.load_word.result ≡ (get_or page.entries place (0, 0)).1 = c.load_word.ensures.word c.args.row words start (ap f at_key.2 ∙ here) (value_inside page place inside) ∙ value_word page place _ refl in
-          c.push.ensures.items
-          ∙ ap (λ (items : List (ℕ × ℕ)). items ++ (c.load_word-key.result, c.load_word.result) ∷ []) (c.loop-place.invariant.read page reads)
-          ∙ (λ i. let e : ℕ × ℕ = (key i, value i) in take place page.entries ++ e ∷ [])
-          ∙ sym (take_more page.entries place (0, 0) inside);
-    }
-
--- the page that these words tell
-told : (level high : ℕ) (floor right : Option ℕ) (items : List (ℕ × ℕ)) (page : PlainPage) → level ≡ page.level → floor ≡ page.floor → high ≡ page.high → right ≡ page.right → items ≡ page.entries
-    → record { level = level; floor = floor; high = high; right = right; entries = items } ≡ page
-told level high floor right items page same_level same_floor same_high same_right same_items =
-    λ i. record { level = same_level i; floor = same_floor i; high = same_high i; right = same_right i; entries = same_items i }
-
-pub overflow_cast-result : goal.overflow_cast-result
-overflow_cast-result c =
-    let page = c.requires.page.0 in
-    let reads = c.requires.page.1 in
-    let level = (c.loop-place.invariant.head page reads).0 in
-    let small = reads.lawful.level_in_range in
-    omega (arith, level, small)
-
-pub link_of-requires : goal.link_of-requires
-link_of-requires c =
-    let page = c.requires.page.0 in
-    let reads = c.requires.page.1 in
-    (page, reads.lawful, (c.loop-place.invariant.head page reads).4)
-
-pub invariant_of-result : goal.invariant_of-result
-invariant_of-result c =
-    let page = c.requires.page.0 in
-    let reads = c.requires.page.1 in
-    let head = c.loop-place.invariant.head page reads in
-    let all : c.loop-place.place ≡ length page.entries = omega (arith, head.5, c.loop-place-test.false, c.loop-place.auto.place-end) in
-    let items : c.loop-place.items.items ≡ page.entries = c.loop-place.invariant.read page reads ∙ ap (λ (n : ℕ). take n page.entries) all ∙ take_all (length page.entries) page.entries (omega arith) in
-    subst (IsLawfulPage MAX_FAN) (sym (told c.load_word-level.result c.load_word-high.result c.floor_of.result c.link_of.result c.loop-place.items.items page head.0 (c.floor_of.ensures page head.1 head.2) head.3 (c.link_of.ensures page reads.lawful head.4) items)) reads.lawful
 
 pub returns-clause-page : goal.returns-clause-page
-returns-clause-page c page reads =
-    let head = c.loop-place.invariant.head page reads in
-    let all : c.loop-place.place ≡ length page.entries = omega (arith, head.5, c.loop-place-test.false, c.loop-place.auto.place-end) in
-    let items : c.loop-place.items.items ≡ page.entries = c.loop-place.invariant.read page reads ∙ ap (λ (n : ℕ). take n page.entries) all ∙ take_all (length page.entries) page.entries (omega arith) in
-    told c.load_word-level.result c.load_word-high.result c.floor_of.result c.link_of.result c.loop-place.items.items page head.0 (c.floor_of.ensures page head.1 head.2) head.3 (c.link_of.ensures page reads.lawful head.4) items
+returns-clause-page c page is =
+    let many : c.records_in-records.result.count ≡ length is.version.records = ap (λ (r : Records). r.count) c.records_in-records.ensures.records ∙ sym (count_is is) in
+    let all : c.loop-older.older ≡ length is.version.records = omega (arith, many, c.loop-older-test.false, c.loop-older.auto.older-end) in
+    c.loop-older.invariant.applied page is
+    ∙ (ap (λ (n : ℕ). page_with is.base (take n is.version.records)) all
+    ∙ (ap (page_with is.base) (take_all (length is.version.records) is.version.records (omega arith)) ∙ sym is.version.is))

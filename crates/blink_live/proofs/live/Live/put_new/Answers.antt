@@ -1,5 +1,4 @@
 use Rattle.std.proofs.Common.{ℕ, suc, ◌+◌, Option, refl, sym, ap, ◌∙◌, subst, true, false}
-use Rattle.blink_rows.specs.declared.span.Span.{Span}
 use Rattle.blink_machine.specs.{done, write_page}
 use Rattle.blink_live.specs.declared.shelf.Shelf.{Shelf}
 use Rattle.blink_live.specs.declared.view.Stock.{Stock}

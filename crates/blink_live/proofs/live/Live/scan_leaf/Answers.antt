@@ -6,8 +6,8 @@ use Rattle.blink_live.proofs.live.Live.scan_leaf.Goals as goal
 
 pub returns-clause-scanned : goal.returns-clause-scanned
 returns-clause-scanned c =
-    let come = c.come_along-row.ensures in
-    let at_leaf : SeatState = c.come_along-row.new.seat.me in
+    let come = c.come_along-word.ensures in
+    let at_leaf : SeatState = c.come_along-word.new.seat.me in
     let copied = c.copy_leaf.ensures.copied in (
       copied.0,
       copied.1,

@@ -1,8 +1,8 @@
-use Rattle.std.proofs.Common.{◌≡◌, ℕ, suc, ◌+◌, ◌<◌, refl, sym, ap, ◌∙◌, subst, arith}
+use Rattle.std.proofs.Common.{◌≡◌, ℕ, suc, ◌+◌, refl, ap, ◌∙◌, subst, arith}
 use Rattle.blink_rows.specs.declared.span.Span.{Span}
 use Rattle.blink_machine.specs.{done, write_page}
 use Rattle.blink_live.specs.AtomicSteps.{PublishesNew}
-use Rattle.blink_live.specs.Spares.{HasAny, HasExchanged, exchanges, spare_on, with_spare_on}
+use Rattle.blink_live.specs.Spares.{with_spare_on}
 use Rattle.blink_live.specs.Views.{SeatState, span}
 use Rattle.blink_live.proofs.reuse.NumbersAreSpare.{exchanged_and_back, none_spare, spare_same, spare_twice, writes_exchanged}
 use Rattle.blink_live.proofs.live.Live.write_new.Goals as goal

@@ -1,0 +1,146 @@
+use Rattle.std.proofs.Common.{◌≡◌, ℕ, ◌+◌, ◌<◌, Some, List, length, get_or, refl, sym, ap, ◌∙◌, subst, arith}
+use Rattle.std.specs.Prelude.{slice_index}
+use Rattle.atomic_table.specs.declared.Seat.{Seat}
+use Rattle.blink_batch.specs.declared.Entry.{Entry}
+use Rattle.blink_page.specs.{PlainPage}
+use Rattle.blink_rows.specs.{page_words}
+use Rattle.blink_live.specs.declared.view.View.{View}
+use Rattle.blink_live.specs.Seats.{ReadsPage}
+use Rattle.blink_live.specs.Views.{SeatState, known_of}
+use Rattle.blink_live.proofs.found.FindsOfSeveral.{same_seat}
+use Rattle.blink_live.proofs.found.EntriesInRow.{key_inside, key_word, value_inside, value_word}
+use Rattle.blink_live.proofs.scanned.LeavesAreCopied.{HasCopied, copied_more, copied_none, copied_past, ends_at_hi, ends_at_high, ends_at_place, ends_with_leaf, place_is_behind}
+use Rattle.blink_live.proofs.live.Live.copy_row.Goals.{then-key-from+else-filled-into, else-key-from}
+use Rattle.blink_live.proofs.live.Live.copy_row.Goals as goal
+
+pub load_word-key-requires-clause-seat : goal.load_word-key-requires-clause-seat
+load_word-key-requires-clause-seat c = same_seat c.args.self.now c.args.seat.now c.loop-place.seat c.loop-place.invariant.same c.requires.seat
+
+pub load_word-pointer-requires-clause-seat : goal.load_word-pointer-requires-clause-seat
+load_word-pointer-requires-clause-seat c =
+    let key = c.load_word-key.ensures.same in
+    let same = c.loop-place.invariant.same in
+    same_seat c.args.self.now c.args.seat.now c.load_word-key.new.seat (key.0 ∙ same.0, key.1 ∙ same.1, key.2 ∙ same.2) c.requires.seat
+
+pub load_word-high-requires-clause-seat : goal.load_word-high-requires-clause-seat
+load_word-high-requires-clause-seat c = same_seat c.args.self.now c.args.seat.now c.loop-place.seat c.loop-place.invariant.same c.requires.seat
+
+pub loop-place-init : goal.loop-place-init
+loop-place-init c = record {
+  same = c.load_word-count.ensures.same;
+  count = λ leaf reads. c.load_word-count.ensures.word c.args.row (page_words leaf) c.row_place-start.ensures.start reads.reads (omega arith);
+  copied = λ leaf reads. copied_none c.args.from c.args.hi leaf.entries c.args.into.now;
+}
+
+-- a word that is loaded after others is one of the row's
+its_word : {me now : SeatState} {row : ℕ} (leaf : PlainPage) (word place : ℕ) → now ≡ me → ReadsPage me row leaf → ((content : List ℕ) → now.0.reads ≡ Some (row, content) → place < length content → word ≡ slice_index content place) → place < length (page_words leaf)
+    → word ≡ slice_index (page_words leaf) place
+its_word leaf word place same reads loads inside = loads (page_words leaf) (ap (λ (x : SeatState). x.0.reads) same ∙ reads.reads) inside
+
+pub loop-place-preserved : goal.loop-place-preserved
+loop-place-preserved c =
+    let same = c.loop-place.invariant.same in
+    let key = c.load_word-key.ensures in
+    let inside : (leaf : PlainPage) → ReadsPage c.args.seat.now.me c.args.row leaf → c.loop-place.place < length leaf.entries =
+    λ leaf reads. let count = c.loop-place.invariant.count leaf reads in let test = c.loop-place-test.true in omega (arith, count, test) in
+    let its_key : (leaf : PlainPage) → ReadsPage c.args.seat.now.me c.args.row leaf → c.load_word-key.result ≡ (get_or leaf.entries c.loop-place.place (0, 0)).0 =
+    λ leaf reads. its_word leaf c.load_word-key.result _ same.2 reads (λ content. key.word c.args.row content c.row_place-start.ensures.start) (key_inside leaf c.loop-place.place (inside leaf reads)) ∙ key_word leaf c.loop-place.place _ refl in
+    elim c.if-key-from.branch [
+      | then-key-from+else-filled-into w ↦
+          let pointer = w.load_word-pointer.ensures in record {
+            same = (
+              ap (λ (s : Seat ℕ View). s.table_id) w.seat-is ∙ pointer.same.0 ∙ key.same.0 ∙ same.0,
+              ap (λ (s : Seat ℕ View). s.id) w.seat-is ∙ pointer.same.1 ∙ key.same.1 ∙ same.1,
+              ap (λ (s : Seat ℕ View). s.me) w.seat-is ∙ pointer.same.2 ∙ key.same.2 ∙ same.2,
+            );
+            count = c.loop-place.invariant.count;
+            copied = λ leaf reads.
+                let was = c.loop-place.invariant.copied leaf reads in
+                let fits = was.0.fits in
+                let count = was.1 in
+                let long = c.loop-place.auto.into in
+                let room = w.if-filled-into.false in
+                let value = its_word leaf w.load_word-pointer.result _ (key.same.2 ∙ same.2) reads (λ content. pointer.word c.args.row content c.row_place-start.ensures.start) (value_inside leaf c.loop-place.place (inside leaf reads)) ∙ value_word leaf c.loop-place.place _ refl in
+                subst (λ (x : List Entry × ℕ). HasCopied c.args.from c.args.hi leaf.entries c.args.into.now (c.loop-place.place + 1) x.0 x.1) (λ i. (sym w.into-is i, sym w.filled-is i))
+                (copied_more c.args.from c.args.hi leaf.entries c.args.into.now c.loop-place.into c.loop-place.place c.loop-place.filled c.load_word-key.result w.load_word-pointer.result was (inside leaf reads) (its_key leaf reads) value w.if-key-from.true c.if-key-hi.false (omega (arith, fits, count, long, room)));
+          }
+      | else-key-from w ↦ record {
+        same = (
+          ap (λ (s : Seat ℕ View). s.table_id) w.seat-is ∙ key.same.0 ∙ same.0,
+          ap (λ (s : Seat ℕ View). s.id) w.seat-is ∙ key.same.1 ∙ same.1,
+          ap (λ (s : Seat ℕ View). s.me) w.seat-is ∙ key.same.2 ∙ same.2,
+        );
+        count = c.loop-place.invariant.count;
+        copied = λ leaf reads.
+            subst (λ (x : List Entry × ℕ). HasCopied c.args.from c.args.hi leaf.entries c.args.into.now (c.loop-place.place + 1) x.0 x.1) (λ i. (sym w.into-is i, sym w.filled-is i))
+            (copied_past c.args.from c.args.hi leaf.entries c.args.into.now c.loop-place.into c.loop-place.place c.loop-place.filled c.load_word-key.result 0 (c.loop-place.invariant.copied leaf reads) (inside leaf reads) (its_key leaf reads) w.if-key-from.false);
+      }
+    ]
+
+-- ---- the ends
+
+pub returns-then-key-hi-clause-copied : goal.returns-then-key-hi-clause-copied
+returns-then-key-hi-clause-copied c =
+    let leaf = c.requires.leaf in
+    let same = c.loop-place.invariant.same in
+    let count = c.loop-place.invariant.count leaf.0 leaf.1 in
+    let test = c.loop-place-test.true in
+    ends_at_hi c.args.from c.args.hi (known_of c.args.seat.now.me.0) leaf.0 leaf.1.lawful leaf.2 c.args.into.now c.loop-place.into c.loop-place.filled c.loop-place.place (c.loop-place.invariant.copied leaf.0 leaf.1) c.load_word-key.result
+    (omega (arith, count, test))
+    (its_word leaf.0 c.load_word-key.result _ same.2 leaf.1 (λ content. c.load_word-key.ensures.word c.args.row content c.row_place-start.ensures.start) (key_inside leaf.0 c.loop-place.place (omega (arith, count, test))) ∙ key_word leaf.0 c.loop-place.place _ refl)
+    c.if-key-hi.true
+
+pub returns-then-filled-into-clause-copied : goal.returns-then-filled-into-clause-copied
+returns-then-filled-into-clause-copied c =
+    let leaf = c.requires.leaf in
+    let same = c.loop-place.invariant.same in
+    let count = c.loop-place.invariant.count leaf.0 leaf.1 in
+    let test = c.loop-place-test.true in
+    ends_at_place c.args.from c.args.hi (known_of c.args.seat.now.me.0) leaf.0 leaf.1.lawful leaf.2 c.args.into.now c.loop-place.into c.loop-place.filled c.loop-place.place (c.loop-place.invariant.copied leaf.0 leaf.1) c.load_word-key.result
+    (omega (arith, count, test))
+    (its_word leaf.0 c.load_word-key.result _ same.2 leaf.1 (λ content. c.load_word-key.ensures.word c.args.row content c.row_place-start.ensures.start) (key_inside leaf.0 c.loop-place.place (omega (arith, count, test))) ∙ key_word leaf.0 c.loop-place.place _ refl)
+    c.if-key-hi.false
+
+pub returns-then-filled-into-clause-further : goal.returns-then-filled-into-clause-further
+returns-then-filled-into-clause-further c =
+    let leaf = c.requires.leaf in
+    let same = c.loop-place.invariant.same in
+    let count = c.loop-place.invariant.count leaf.0 leaf.1 in
+    let test = c.loop-place-test.true in
+    let full = c.if-filled-into.true in
+    let some = c.requires.some_place in
+    let long = c.loop-place.auto.into in (
+      place_is_behind c.args.from c.args.hi (known_of c.args.seat.now.me.0) leaf.0 leaf.1.lawful leaf.2 c.args.into.now c.loop-place.into c.loop-place.filled c.loop-place.place (c.loop-place.invariant.copied leaf.0 leaf.1) c.load_word-key.result
+          (omega (arith, count, test))
+          (its_word leaf.0 c.load_word-key.result _ same.2 leaf.1 (λ content. c.load_word-key.ensures.word c.args.row content c.row_place-start.ensures.start) (key_inside leaf.0 c.loop-place.place (omega (arith, count, test))) ∙ key_word leaf.0 c.loop-place.place _ refl)
+          (omega (arith, full, some, long)),
+      c.if-key-hi.false,
+    )
+
+pub returns-then-high-hi-clause-copied : goal.returns-then-high-hi-clause-copied
+returns-then-high-hi-clause-copied c =
+    let leaf = c.requires.leaf in
+    let count = c.loop-place.invariant.count leaf.0 leaf.1 in
+    let test = c.loop-place-test.false in
+    ends_at_high c.args.from c.args.hi (known_of c.args.seat.now.me.0) leaf.0 leaf.1.lawful leaf.2 c.args.into.now c.loop-place.into c.loop-place.filled c.loop-place.place (c.loop-place.invariant.copied leaf.0 leaf.1) c.load_word-high.result
+    (omega (arith, count, test))
+    (its_word leaf.0 c.load_word-high.result _ c.loop-place.invariant.same.2 leaf.1 (λ content. c.load_word-high.ensures.word c.args.row content c.row_place-start.ensures.start) (omega arith))
+    c.if-high-hi.true
+
+pub returns-then-high-hi-clause-further : goal.returns-then-high-hi-clause-further
+returns-then-high-hi-clause-further c =
+    let leaf = c.requires.leaf in
+    let high : c.load_word-high.result ≡ leaf.0.high = its_word leaf.0 c.load_word-high.result _ c.loop-place.invariant.same.2 leaf.1 (λ content. c.load_word-high.ensures.word c.args.row content c.row_place-start.ensures.start) (omega arith) in
+    let reaches = leaf.2.reaches in
+    let test = c.if-high-hi.true in
+    (omega (arith, high, reaches), omega (arith, test))
+
+pub returns-else-high-hi-clause-copied : goal.returns-else-high-hi-clause-copied
+returns-else-high-hi-clause-copied c =
+    let leaf = c.requires.leaf in
+    let count = c.loop-place.invariant.count leaf.0 leaf.1 in
+    let test = c.loop-place-test.false in
+    ends_with_leaf c.args.from c.args.hi (known_of c.args.seat.now.me.0) leaf.0 leaf.1.lawful leaf.2 c.args.into.now c.loop-place.into c.loop-place.filled c.loop-place.place (c.loop-place.invariant.copied leaf.0 leaf.1) c.load_word-high.result
+    (omega (arith, count, test))
+    (its_word leaf.0 c.load_word-high.result _ c.loop-place.invariant.same.2 leaf.1 (λ content. c.load_word-high.ensures.word c.args.row content c.row_place-start.ensures.start) (omega arith))
+    c.if-high-hi.false

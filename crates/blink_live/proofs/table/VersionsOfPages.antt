@@ -1,0 +1,61 @@
+-- What a page has in common with the base in its row.
+use Rattle.std.proofs.Common.{◌≡◌, ℕ, ◌<◌, List, [], ◌∷◌, length, refl, sym, ap, ◌∙◌, arith}
+use Rattle.blink_page.specs.{IsLawfulPage, PlainPage}
+use Rattle.blink_page.specs.declared.limits.TheConstants.{MAX_FAN}
+use Rattle.blink_rows.specs.{page_with, records_in}
+use Rattle.blink_rows.specs.Log.{log_words}
+use Rattle.blink_rows.specs.Naming.{row_in}
+use Rattle.blink_rows.specs.declared.limits.TheConstants.{ROW_LIMIT}
+use Rattle.blink_rows.specs.declared.log.Record.{Record}
+use Rattle.blink_rows.specs.declared.naming.Records.{Records}
+use Rattle.blink_rows.proofs.Offered.{inner_has_none, logged_none, no_records_of_row}
+use Rattle.blink_live.specs.Words.{IsVersion}
+
+-- the row that a word names is one that a page word has room for
+pub row_is_below : (word : ℕ) → row_in word < ROW_LIMIT
+unfolding row_in
+row_is_below word = omega arith
+
+-- all but the entries is the same
+pub record SameHead (base page : PlainPage) : Type 0 where
+  pub level : page.level ≡ base.level
+  pub floor : page.floor ≡ base.floor
+  pub high : page.high ≡ base.high
+  pub right : page.right ≡ base.right
+
+pub same_head : {word : ℕ} {base page : PlainPage} {behind : List ℕ} → IsVersion word base behind page → SameHead base page
+same_head is = record {
+  level = ap (λ (p : PlainPage). p.level) is.is;
+  floor = ap (λ (p : PlainPage). p.floor) is.is;
+  high = ap (λ (p : PlainPage). p.high) is.is;
+  right = ap (λ (p : PlainPage). p.right) is.is;
+}
+
+no_records_left : (records : List Record) → length records ≡ 0 → records ≡ []
+no_records_left [] none = refl
+no_records_left (r ∷ rest) none = absurd (omega (arith, none))
+
+-- without records the page is the base
+pub alone_if_none : {word : ℕ} {base page : PlainPage} {behind : List ℕ} → IsVersion word base behind page → (records_in word).count ≡ 0 → (base ≡ page) × (behind ≡ [])
+alone_if_none {word} {base} is none =
+    let empty : is.records ≡ [] = no_records_left is.records (ap (λ (r : Records). r.count) is.counts ∙ none) in (
+      sym (is.is ∙ ap (page_with base) empty),
+      is.words ∙ ap log_words empty,
+    )
+
+-- an inner page has none
+pub inner_alone : {word : ℕ} {base page : PlainPage} {behind : List ℕ} → IsVersion word base behind page → IsLawfulPage MAX_FAN page → 0 < page.level → base ≡ page
+inner_alone {word} {base} {page} is lawful inner =
+    let above : 0 < base.level = let level = (same_head is).level in omega (arith, level, inner) in
+    let empty : is.records ≡ [] = inner_has_none MAX_FAN base is.records (is.logged lawful).all_fit above in
+    sym (is.is ∙ ap (page_with base) empty)
+
+-- a row's number is the page word that names the row, and no records
+pub unlogged : (row : ℕ) (page : PlainPage) → row < ROW_LIMIT → IsVersion row page [] page
+unlogged row page low = record {
+  records = [];
+  words = refl;
+  counts = sym (no_records_of_row row low);
+  is = refl;
+  logged = λ lawful. logged_none MAX_FAN page lawful (omega arith);
+}
