@@ -11,6 +11,21 @@ impl Clone for Index {
     }
 }
 
+impl Default for Index {
+    /// Makes an index of fan 32 without an entry. It panics where memory is refused, and [`Index::new`] doesn't.
+    ///
+    /// ```
+    /// use blink::Index;
+    ///
+    /// let mut index: Index = [(1, 10)].into_iter().collect();
+    /// let before = std::mem::take(&mut index);
+    /// assert_eq!((before.len(), index.len(), index.fan()), (1, 0, 32));
+    /// ```
+    fn default() -> Index {
+        Index::new(32).expect("memory for an index")
+    }
+}
+
 impl Clone for Reader {
     /// Makes one more reader of the same index. It panics where memory is refused, and [`Reader::join`] doesn't.
     fn clone(&self) -> Reader {
@@ -57,7 +72,7 @@ impl FromIterator<(u64, u64)> for Index {
 ///
 /// ```
 /// # use blink::Index;
-/// let mut index = Index::new(16)?;
+/// let mut index = Index::new(32)?;
 /// index.extend([(5, 50), (7, 70)]);
 /// index.extend([(7, 71)]);
 /// assert_eq!((index.len(), index.get(7)), (2, Some(71)));

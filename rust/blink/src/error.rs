@@ -34,7 +34,8 @@ pub enum Error {
     BadSessions,
     /// Each place for a session is taken.
     NoSession,
-    /// The session has too few rows or page numbers in all for the change, and the map's pool too.
+    /// The session has too few rows or page numbers in all for the change, and the map's pool too. [`Map`](crate::Map#a-map-that-is-full) says
+    /// what goes on then, and how a program opens a larger map.
     Full,
     /// The session has enough rows and page numbers in all for the change, but some rows are on their way back. The same change may be
     /// let through later.

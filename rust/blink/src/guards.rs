@@ -19,7 +19,7 @@ struct Turn(AtomicU64);
 /// ```
 /// use blink::{Guards, Index, Map, Room};
 ///
-/// let map = Map::open(&Index::new(16)?, Room { pages: 22, rows: 100, sessions: 1 })?;
+/// let map = Map::open(&Index::new(32)?, Room { pages: 22, rows: 100, sessions: 1 })?;
 /// let mut session = map.session()?;
 /// let (guards, mut readers) = Guards::new(2);
 /// let object = Box::into_raw(Box::new(50u64));

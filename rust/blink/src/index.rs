@@ -11,7 +11,7 @@ use std::ops::RangeBounds;
 /// ```
 /// use blink::{Answer, Index, Op};
 ///
-/// let mut index = Index::new(16)?;
+/// let mut index = Index::new(32)?;
 /// let answers = index.run(&[Op::Insert(5, 50), Op::Insert(7, 70), Op::Get(5), Op::Remove(6)])?;
 /// assert_eq!(answers, [Answer::Inserted, Answer::Inserted, Answer::Found(50), Answer::Absent]);
 /// assert_eq!(index.get(7), Some(70));
@@ -19,7 +19,8 @@ use std::ops::RangeBounds;
 /// # Ok::<(), blink::Error>(())
 /// ```
 ///
-/// An index may move to another thread, and one thread at a time uses it:
+/// [The crate's page](crate) has the calls of a `BTreeMap` and their names here. An index may move to another thread, and one thread at a time
+/// uses it:
 ///
 /// ```
 /// fn may_move<T: Send>() {}
@@ -41,12 +42,13 @@ pub struct Index {
 unsafe impl Send for Index {}
 
 impl Index {
-    /// Makes an index without an entry, whose pages have at most `fan` entries, 4 to 32.
+    /// Makes an index without an entry, whose pages have at most `fan` entries, 4 to 32. Take 32: a page takes 560 bytes by any fan, so a
+    /// fan of 16 needs twice the memory. Small fans make deep trees of few keys, for tests.
     ///
     /// ```
     /// use blink::{Error, Index};
     ///
-    /// assert!(Index::new(16)?.is_empty());
+    /// assert!(Index::new(32)?.is_empty());
     /// assert_eq!(Index::new(3).unwrap_err(), Error::BadFan);
     /// # Ok::<(), Error>(())
     /// ```
@@ -144,7 +146,7 @@ impl Index {
     /// ```
     /// use blink::{Answer, Index};
     ///
-    /// let mut index = Index::new(16)?;
+    /// let mut index = Index::new(32)?;
     /// assert_eq!(index.insert(5, 50)?, Answer::Inserted);
     /// assert_eq!(index.insert(5, 51)?, Answer::Exists(50));
     /// assert_eq!(index.replace(5, 52), Answer::Replaced(50));
@@ -218,7 +220,7 @@ impl Index {
     /// ```
     /// use blink::{Answer, Index, Op};
     ///
-    /// let mut index = Index::new(16)?;
+    /// let mut index = Index::new(32)?;
     /// let applied = index.apply(&[Op::Insert(5, 50), Op::Get(5), Op::Remove(6)]);
     /// assert_eq!(applied.answers, [Answer::Inserted, Answer::Found(50), Answer::Absent]);
     /// assert_eq!(applied.error, None);

@@ -21,7 +21,7 @@
 //! # Ok::<(), blink::Error>(())
 //! ```
 //!
-//! - [`Index`] is a map from 64-bit keys to 64-bit record pointers, for one thread at a time.
+//! - [`Index`] is a map from 64-bit keys to 64-bit record pointers, for one thread at a time. A record pointer is any number of 64 bits.
 //! - [`Reader`] reads an index that other threads read at the same time, each by a reader of its own.
 //! - [`Map`] shares the entries of an index among threads. Any of them changes any key, each by a [`Session`].
 //! - [`Table`] shares them too, and each key has an owner: a [`Pass`] has keys of its own, inserts, deletes and replaces these, and
@@ -34,13 +34,17 @@
 //!
 //! `BTreeMap` | An [`Index`], and a [`Session`] of a map
 //! ---|---
+//! `new` | [`Index::new`]`(32)?`, or `Index::default()`
 //! `insert` | `put`, which returns the pointer before; `insert` only inserts
 //! `remove` | `remove(key).pointer()`
 //! `contains_key` | `contains`
+//! `get`, `map[&key]` | `get`, which returns the pointer itself; no call lends a reference, so `get_mut`, `iter_mut` and `values_mut` are `update`
 //! `first_key_value`, `last_key_value` | `first`, `last`; of a session `first` alone
-//! `range(..key).next_back()`, `range(key..).next()` | `prev`, `at_least`
+//! `range(..key).next_back()`, `range(key..).next()` | `prev`, `at_least`; of a session `range(key..).next()` alone
+//! `range(..).rev()` | the same; a session's range goes up only
 //! `entry` | `update`
-//! `retain(keeps)` | `retain(.., keeps)`
+//! `retain(keeps)` | `retain(.., keeps)`, which returns how many entries it took
+//! `into_iter` | `iter`, or `for entry in &index`; there is no iterator that owns the index
 //! `keys`, `values` | `iter().map(..)`, of a session `range(..).map(..)`
 //! `len` | `len` walks the leaves; of a session `count(..)` does
 //!

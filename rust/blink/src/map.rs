@@ -32,14 +32,15 @@ pub struct Room {
 impl Room {
     /// A room over this index that is enough for so many insertions of absent keys, whatever their keys and their order, by so many sessions,
     /// and for any number of other changes. Each leaf of the index may be full and split once; after that a leaf splits again once half of a
-    /// page has been inserted into it. Random keys over leaves with some room take about half of the page numbers.
+    /// page has been inserted into it. Random keys take about two thirds of these page numbers. Beside them, each session gets 534, since it may
+    /// have drawn so many and not used them.
     ///
     /// [`Map::open`] refuses a room that is too large, with [`Error::TooLarge`].
     ///
     /// ```
     /// use blink::{Index, Map, Room};
     ///
-    /// let index = Index::new(16)?;
+    /// let index = Index::new(32)?;
     /// let map = Map::open(&index, Room::for_insertions(&index, 1_000, 1))?;
     /// let mut session = map.session()?;
     /// for key in 0..1_000 {
@@ -85,7 +86,7 @@ pub struct Reserve {
     pub waiting: u64,
 }
 
-/// The entries of an index, which threads change together without a global lock, each any key by a [`Session`].
+/// The entries of an index, which threads change together without a global lock. Each thread changes any key, by a [`Session`].
 ///
 /// There is one list of changes of all keys. Each call of a session answers as on the entries after a part of the list, which goes on
 /// from all that the session had seen; its own change follows there at once. A session never un-sees a change that it has seen.
@@ -93,8 +94,8 @@ pub struct Reserve {
 /// ```
 /// use blink::{Answer, Index, Map, Room};
 ///
-/// let room = Room { pages: 5_000, rows: 20_000, sessions: 8 };
-/// let map = Map::open(&Index::new(16)?, room)?;
+/// let index = Index::new(32)?;
+/// let map = Map::open(&index, Room::for_insertions(&index, 1_000, 8))?;
 /// std::thread::scope(|scope| {
 ///     for thread in 0..8 {
 ///         let mut session = map.session().unwrap();
@@ -111,6 +112,37 @@ pub struct Reserve {
 /// assert_eq!(index.len(), 1000);
 /// assert_eq!(index.get(7).map(|pointer| pointer / 10), Some(7));
 /// # Ok::<(), blink::Error>(())
+/// ```
+///
+/// # A map that is full
+///
+/// A map doesn't grow. Once its page numbers are used up, insertions of absent keys are refused with [`Error::Full`]. Look-ups, removals and puts
+/// of present keys go on, and removals bring no page number back. For more keys, drop the sessions, close the map, compact the index, and open
+/// a larger map over it. A thread whose session owns a share of the map ([`Map::session_owned`]) drops it, and gets one of the new map.
+///
+/// ```
+/// use blink::{Error, Index, Map, Room};
+///
+/// let mut index = Index::new(32)?;
+/// let mut next = 0;
+/// while next < 50_000 {
+///     // room for as many keys again as there are, and for some at least
+///     let more = (index.len() as u32).max(1_000);
+///     let map = Map::open(&index, Room::for_insertions(&index, more, 1))?;
+///     let mut session = map.session()?;
+///     while next < 50_000 {
+///         match session.put(next, 10 * next) {
+///             Ok(_) => next += 1,
+///             Err(Error::Full) => break,
+///             Err(error) => return Err(error),
+///         }
+///     }
+///     drop(session);
+///     index = map.close()?;
+///     index.compact()?;
+/// }
+/// assert_eq!((index.len(), index.get(49_999)), (50_000, Some(499_990)));
+/// # Ok::<(), Error>(())
 /// ```
 pub struct Map {
     // One thread at a time uses the handle. Sessions have their own.
@@ -132,7 +164,7 @@ impl Map {
     /// ```
     /// use blink::{Error, Index, Map, Room};
     ///
-    /// let index = Index::new(16)?;
+    /// let index = Index::new(32)?;
     /// let room = Room { pages: 22, rows: 44, sessions: 0 };
     /// assert_eq!(Map::open(&index, room).unwrap_err(), Error::BadSessions);
     /// assert_eq!(Map::open(&index, Room { pages: 1 << 20, sessions: 1, ..room }).unwrap_err(), Error::TooLarge);
@@ -176,7 +208,7 @@ impl Map {
     /// ```
     /// use blink::{Error, Index, Map, Room};
     ///
-    /// let map = Map::open(&Index::new(16)?, Room { pages: 0, rows: 0, sessions: 1 })?;
+    /// let map = Map::open(&Index::new(32)?, Room { pages: 0, rows: 0, sessions: 1 })?;
     /// let session = map.session()?;
     /// assert_eq!(map.session().unwrap_err(), Error::NoSession);
     /// drop(session);
@@ -198,7 +230,7 @@ impl Map {
     ///     by_number: Session<'static>,
     /// }
     ///
-    /// let map = Arc::new(Map::open(&Index::new(16)?, Room { pages: 22, rows: 100, sessions: 1 })?);
+    /// let map = Arc::new(Map::open(&Index::new(32)?, Room { pages: 22, rows: 100, sessions: 1 })?);
     /// let mut orders = Orders { by_number: map.session_owned()? };
     /// orders.by_number.put(7, 70)?;
     /// drop(orders);
@@ -294,7 +326,7 @@ impl std::error::Error for Unclosed {}
 /// use blink::{Index, Map, Room};
 /// use std::sync::Arc;
 ///
-/// let map = Arc::new(Map::open(&Index::new(16)?, Room { pages: 5_000, rows: 20_000, sessions: 2 })?);
+/// let map = Arc::new(Map::open(&Index::new(32)?, Room { pages: 5_000, rows: 20_000, sessions: 2 })?);
 /// let workers: Vec<_> = (0..2)
 ///     .map(|worker| {
 ///         let mut session = map.session_owned().unwrap();
@@ -493,8 +525,8 @@ impl<'map> Session<'map> {
     /// Maps a key to a pointer, unless the key is there: [`Answer::Inserted`] or [`Answer::Exists`].
     ///
     /// It is refused with [`Error::Full`], as [`Session::remove`], [`Session::replace`] and [`Session::put`] are, if the session has
-    /// too little room in all and the map's pool too; an insertion only if its key is absent. Then the map is as it was. The call waits
-    /// where the session has the room once its rows have come back.
+    /// too little room in all and the map's pool too; an insertion only if its key is absent. Then the map is as it was, and
+    /// [what a full map takes](Map#a-map-that-is-full) goes on. The call waits where the session has the room once its rows have come back.
     pub fn insert(&mut self, key: u64, pointer: u64) -> Result<Answer, Error> {
         // SAFETY: as in `get`.
         self.ended(|handle, answer| unsafe { sys::blink_session_insert(handle, key, pointer, TRIES, answer) })
@@ -564,7 +596,7 @@ impl<'map> Session<'map> {
     /// ```
     /// use blink::{Index, Map, Room};
     ///
-    /// let map = Map::open(&Index::new(16)?, Room { pages: 22, rows: 100, sessions: 1 })?;
+    /// let map = Map::open(&Index::new(32)?, Room { pages: 22, rows: 100, sessions: 1 })?;
     /// let mut session = map.session()?;
     /// let one_more = |count: Option<u64>| Some(count.unwrap_or(0) + 1);
     /// let one_less = |count: Option<u64>| count.filter(|count| *count > 1).map(|count| count - 1);
@@ -598,7 +630,7 @@ impl<'map> Session<'map> {
     /// ```
     /// use blink::{Index, Map, Room};
     ///
-    /// let map = Map::open(&Index::new(16)?, Room { pages: 22, rows: 100, sessions: 1 })?;
+    /// let map = Map::open(&Index::new(32)?, Room { pages: 22, rows: 100, sessions: 1 })?;
     /// let mut session = map.session()?;
     /// assert_eq!(session.put(5, 50)?, None);
     /// assert_eq!(session.put(5, 51)?, Some(50));
@@ -616,7 +648,7 @@ impl<'map> Session<'map> {
     /// ```
     /// use blink::{Index, Map, Room};
     ///
-    /// let map = Map::open(&Index::new(16)?, Room { pages: 22, rows: 44, sessions: 2 })?;
+    /// let map = Map::open(&Index::new(32)?, Room { pages: 22, rows: 44, sessions: 2 })?;
     /// let (mut writer, mut reader) = (map.session()?, map.session()?);
     /// writer.insert(5, 50)?;
     /// writer.tell(&mut reader)?;
@@ -633,7 +665,7 @@ impl<'map> Session<'map> {
     /// ```
     /// use blink::{Index, Map, Room, Reserve};
     ///
-    /// let map = Map::open(&Index::new(16)?, Room { pages: 200, rows: 400, sessions: 1 })?;
+    /// let map = Map::open(&Index::new(32)?, Room { pages: 200, rows: 400, sessions: 1 })?;
     /// let mut session = map.session()?;
     /// session.insert(5, 50)?;
     /// // it has drawn half of the pool, and has replaced the leaf's row by another
@@ -658,7 +690,7 @@ impl<'map> Session<'map> {
     /// ```
     /// use blink::{Answer, Begun, Index, Map, Op, Room};
     ///
-    /// let map = Map::open(&Index::new(16)?, Room { pages: 22, rows: 44, sessions: 1 })?;
+    /// let map = Map::open(&Index::new(32)?, Room { pages: 22, rows: 44, sessions: 1 })?;
     /// let mut begun = map.session()?.begin(Op::Insert(5, 50), 10).map_err(|(_, error)| error)?;
     /// let (session, answer) = loop {
     ///     match begun {
@@ -721,7 +753,7 @@ impl<'map> Session<'map> {
     /// ```
     /// use blink::{Answer, Begun, Index, Map, Room};
     ///
-    /// let map = Map::open(&Index::new(16)?, Room { pages: 22, rows: 100, sessions: 1 })?;
+    /// let map = Map::open(&Index::new(32)?, Room { pages: 22, rows: 100, sessions: 1 })?;
     /// let mut session = map.session()?;
     /// session.insert(5, 50)?;
     /// let mut begun = session.begin_put(5, 51, 10).map_err(|(_, error)| error)?;

@@ -35,7 +35,7 @@ impl Op {
 /// ```
 /// use blink::{Answer, Index};
 ///
-/// let mut index = Index::new(16)?;
+/// let mut index = Index::new(32)?;
 /// index.insert(5, 50)?;
 /// let answer = index.compare_exchange(5, 40, 41);
 /// assert_eq!((answer, answer.changed(), answer.pointer()), (Answer::Exists(50), false, Some(50)));

@@ -10,7 +10,7 @@ impl Index {
     ///
     /// ```
     /// # use blink::Index;
-    /// let mut index = Index::new(16)?;
+    /// let mut index = Index::new(32)?;
     /// assert_eq!(index.put(5, 50)?, None);
     /// assert_eq!(index.put(5, 51)?, Some(50));
     /// # Ok::<(), blink::Error>(())
@@ -29,7 +29,7 @@ impl Index {
     ///
     /// ```
     /// # use blink::Index;
-    /// let mut index = Index::new(16)?;
+    /// let mut index = Index::new(32)?;
     /// assert_eq!(index.update(5, |count| Some(count.unwrap_or(0) + 1))?, None);
     /// assert_eq!(index.update(5, |count| Some(count.unwrap_or(0) + 1))?, Some(1));
     /// assert_eq!(index.update(5, |_| None)?, Some(2));

@@ -14,7 +14,7 @@ use std::thread;
 /// ```
 /// use blink::{Answer, Index, Table};
 ///
-/// let index = Index::new(16)?;
+/// let index = Index::new(32)?;
 /// let mut table = Table::open(&index, 2000, 0)?;
 /// let odd: Vec<u64> = (0..1000).map(|i| 2 * i + 1).collect();
 /// let even: Vec<u64> = (0..1000).map(|i| 2 * i).collect();
@@ -58,7 +58,7 @@ impl Table {
     /// ```
     /// use blink::{Error, Index, Table};
     ///
-    /// let mut table = Table::open(&Index::new(16)?, 10, 10)?;
+    /// let mut table = Table::open(&Index::new(32)?, 10, 10)?;
     /// let pass = table.deal(&[1, 2, 3], 5, 5)?;
     /// assert_eq!(table.deal(&[4, 2], 5, 5).unwrap_err(), Error::Taken(2));
     /// assert_eq!(table.deal(&[4], 6, 5).unwrap_err(), Error::NoAllowance);
@@ -87,7 +87,7 @@ impl Table {
     /// ```
     /// use blink::{Error, Index, Table};
     ///
-    /// let index = Index::new(16)?;
+    /// let index = Index::new(32)?;
     /// let (mut one, mut other) = (Table::open(&index, 1, 1)?, Table::open(&index, 1, 1)?);
     /// let pass = one.deal(&[1], 1, 1)?;
     /// let (pass, error) = other.give_back(pass).unwrap_err();
@@ -113,7 +113,7 @@ impl Table {
     /// ```
     /// use blink::{Error, Index, Table};
     ///
-    /// let index = Index::new(16)?;
+    /// let index = Index::new(32)?;
     /// let (one, mut other) = (Table::open(&index, 0, 0)?, Table::open(&index, 0, 0)?);
     /// let pass = other.deal(&[1], 0, 0)?;
     /// assert_eq!(one.close([pass]).unwrap_err(), Error::Foreign);
@@ -238,7 +238,7 @@ impl Pass {
     /// ```
     /// use blink::{Index, Table};
     ///
-    /// let mut table = Table::open(&Index::new(16)?, 1, 0)?;
+    /// let mut table = Table::open(&Index::new(32)?, 1, 0)?;
     /// let mut writer = table.deal(&[5], 1, 0)?;
     /// let mut reader = table.deal(&[], 0, 0)?;
     /// writer.insert(5, 50)?;
@@ -257,7 +257,7 @@ impl Pass {
     /// ```
     /// use blink::{Answer, Error, Index, Table};
     ///
-    /// let mut table = Table::open(&Index::new(16)?, 1, 1)?;
+    /// let mut table = Table::open(&Index::new(32)?, 1, 1)?;
     /// let mut first = table.deal(&[4, 5], 1, 0)?;
     /// let mut second = table.deal(&[6], 0, 1)?;
     /// first.insert(5, 50)?;
@@ -355,7 +355,7 @@ impl Pass {
     /// ```
     /// use blink::{Answer, Index, Table};
     ///
-    /// let mut table = Table::open(&Index::new(16)?, 1, 0)?;
+    /// let mut table = Table::open(&Index::new(32)?, 1, 0)?;
     /// let pass = table.deal(&[5], 1, 0)?;
     /// let mut pending = pass.begin_insert(5, 50).map_err(|(_, error)| error)?;
     /// let (pass, answer) = loop {
