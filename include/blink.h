@@ -172,11 +172,11 @@ static inline const char *blink_message(int code) {
     case BLINK_RETURNED: return "the pass was given back";
     case BLINK_MAP_TOO_LARGE: return "the map is too large";
     case BLINK_BAD_SESSIONS: return "a map has 1 to 256 sessions";
-    case BLINK_NO_SESSION: return "no place for a session";
+    case BLINK_NO_SESSION: return "no place for a session, or the map is closed";
     case BLINK_FULL: return "the map is full: close it, compact the index, open a larger map";
     case BLINK_SESSION_MISSING: return "a session or another handle isn't freed";
     case BLINK_ROWS_BUSY: return "rows are on their way back: try again";
-    case BLINK_MAP_CLOSED: return "a close of the map has begun";
+    case BLINK_MAP_CLOSED: return "the map is closed, or a close of it has begun";
     default: return "unknown code";
     }
 }
@@ -215,8 +215,8 @@ static inline uint64_t blink_key_of_pair(uint32_t first, uint32_t second) {
 
 /* ---- The index: a map from keys to record pointers. ---- */
 
-/* Makes an index without an entry, whose pages have at most `fan` entries, 4 to 32. Refused: BLINK_BAD_FAN, for every other fan;
- * BLINK_NO_MEMORY. */
+/* Makes an index without an entry, whose pages have at most `fan` entries, 4 to 32. Take 32: a page takes 560 bytes by any fan, so a fan
+ * of 16 needs twice the memory. Refused: BLINK_BAD_FAN, for every other fan; BLINK_NO_MEMORY. */
 int blink_index_new(uint8_t fan, blink_index *out);
 
 /* Makes an index of entries in any order, sorted or not. Of two with one key the first stays. It has at most 1 page and 22 for
@@ -279,7 +279,8 @@ bool blink_index_find(blink_index *index, uint64_t key, uint64_t *pointer);
 int blink_index_find_many(blink_index *index, const uint64_t *keys, size_t count, blink_answer *answers, size_t places);
 
 /* Gives the entries with keys from `lo` to `hi`, both included, in ascending order, as many as there are places. It returns how
- * many there are, and stores how many fitted. The other places stay as they were. */
+ * many there are, and stores how many fitted. The other places stay as they were. Where `lo` is above `hi` there are none, here as in each
+ * scan and snapshot below. */
 size_t blink_index_scan(blink_index *index, uint64_t lo, uint64_t hi, blink_entry *entries, size_t places, size_t *fitted);
 
 /* The same for the first `n` entries with keys from `lo` on, or all of these if they are fewer. It returns at most `n`. */
@@ -479,6 +480,21 @@ void blink_pass_free(blink_pass pass);
  *
  * Only blink_map_open, blink_map_share, blink_map_join, blink_map_close and blink_session_snapshot take memory. Of one map's calls the
  * first four and blink_map_room use a handle of the map; those of sessions don't.
+ *
+ * From the opening to the close, each code to be looked at:
+ *
+ *     blink_room_for(&index, insertions, 2, &pages, &rows);
+ *     blink_map_open(&index, pages, rows, 2, &map);
+ *         in each of two threads, whose session begins as {NULL}:
+ *             blink_map_join(&map, &session);
+ *             blink_session_put_wait(&session, key, pointer, &answer);
+ *             blink_session_free(session);
+ *     blink_map_close(&map, &closed);
+ *     blink_map_free(map);
+ *
+ * A map doesn't grow. Once its page numbers are used up, insertions of absent keys are refused with BLINK_FULL; finds, deletions and puts
+ * of present keys go on. For more keys, free the sessions, close the map, pack the index by blink_index_compact, and open a larger map over
+ * it. examples/c/session_cache.c is a whole program.
  */
 
 /* Opens a map over the index, which stays as it is, with places for 1 to 256 sessions. While it opens, it takes twice the memory that the
@@ -511,8 +527,8 @@ static inline int blink_map_open(blink_index *index, uint32_t pages, uint32_t ro
 
 /* Stores the page numbers and rows that are enough for so many insertions of absent keys into a map over this index, whatever their keys
  * and their order, by so many sessions, and for any number of other changes. Each leaf of the index may be full and split once; after that
- * a leaf splits again once half of a page has been inserted into it. Random keys over leaves with some room take about half of the numbers.
- * What is too large, blink_map_open refuses. */
+ * a leaf splits again once half of a page has been inserted into it. Random keys take about two thirds of these page numbers. Beside them,
+ * each session gets 534, since it may have drawn so many and not used them. What is too large, blink_map_open refuses. */
 static inline void blink_room_for(blink_index *index, uint32_t insertions, uint32_t sessions, uint32_t *pages, uint32_t *rows) {
     uint64_t half = (blink_index_fan(index) + 1u) / 2; /* so many insertions fill the half that a split leaves */
     uint64_t leaves = blink_index_pages(index) + insertions / half;
@@ -531,8 +547,8 @@ static inline int blink_map_share(blink_map *map, blink_map *out);
  * if the map is closed; otherwise only if each place was taken. */
 static inline int blink_map_join(blink_map *map, blink_session *out);
 
-/* Stores how many rows and page numbers the map's pool has left, for a look: sessions may draw at any time. Tested: it stores what
- * there is, and 0 twice if the map is closed. */
+/* Stores how many rows and page numbers the map's pool has left, for a look: sessions may draw at any time. The rows come first here, and
+ * the page numbers first in blink_map_open. Tested: it stores what there is, and 0 twice if the map is closed. */
 static inline void blink_map_room(blink_map *map, uint64_t *rows, uint64_t *pages);
 
 /* The same three, where no other call uses the handle `map` at the same time. */
@@ -586,8 +602,9 @@ int blink_session_find(blink_session *session, uint64_t key, blink_answer *answe
 /* Gives the entries whose keys are from `lo` to `hi`, both included, in ascending order, as many as there are places; other places
  * stay as they were. It reads leaf after leaf, from the left, each at one time: what it says of a key is what the changes up to some
  * time in the call leave of it, and of a greater key those up to that time or a later one. A key that is there throughout the
- * call is reported, and one that isn't there throughout isn't. The session has seen the changes up to these times then. It takes no
- * memory. Refused: BLINK_PENDING; then nothing changes. */
+ * call is reported, and one that isn't there throughout isn't. The session has seen the changes up to these times then. A walk in parts
+ * calls again from `next` as long as `more` is 1; without a place it gets nowhere. It takes no memory. Refused: BLINK_PENDING; then nothing
+ * changes. */
 int blink_session_scan(blink_session *session, uint64_t lo, uint64_t hi, blink_entry *entries, size_t places,
                        blink_scanned *scanned);
 

@@ -385,6 +385,12 @@ private:
 // What a map has beside its entries, for changes and sessions to come; and what its pool has left of it.
 struct Room {
     std::uint32_t pages, rows, sessions;
+    // A room over this index that is enough for so many insertions of absent keys by so many sessions: what blink_room_for says.
+    static Room for_insertions(Index &index, std::uint32_t insertions, std::uint32_t sessions) {
+        Room room{0, 0, sessions};
+        blink_room_for(index.handle(), insertions, sessions, &room.pages, &room.rows);
+        return room;
+    }
 };
 struct Left {
     std::uint64_t pages, rows;

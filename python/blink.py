@@ -10,10 +10,10 @@ object has a lock, so that threads which use it at once wait for each other; so 
 closed raises ValueError.
 
     index = blink.Index(entries=[(7, 70)])
-    map = blink.Map(index, pages=5_000, rows=20_000, sessions=2)
-    with map.join() as session:
+    shared = blink.Map(index, *blink.room_for(index, insertions=1_000, sessions=2))
+    with shared.join() as session:
         session.put(8, 80)
-    index = map.close()
+    index = shared.close()
     assert index.scan(0, 9) == [(7, 70), (8, 80)]
 """
 
@@ -41,8 +41,19 @@ CODES = {
 }
 _NAMES = {number: name for name, number in CODES.items()}
 
+# What the name alone doesn't tell, in the words of blink_message.
+_MESSAGES = {
+    "BAD_FAN": "the fan isn't from 4 to 32",
+    "BAD_SESSIONS": "a map has 1 to 256 sessions",
+    "NO_SESSION": "no place for a session, or the map is closed",
+    "FULL": "the map is full: close it, compact the index, open a larger map",
+    "SESSION_MISSING": "a session or another handle isn't freed",
+}
+
 #: What a call found or did: one of ABSENT to REPLACED, and the pointer, or 0 where the answer tells none.
 Answer = namedtuple("Answer", "kind pointer")
+#: What a map has beside its entries, as `Map` takes it: page numbers, rows, and places for sessions.
+Room = namedtuple("Room", "pages rows sessions")
 #: What a session has of its map's page numbers and rows.
 Reserve = namedtuple("Reserve", "pages unwritten free taken_out waiting")
 
@@ -56,7 +67,8 @@ class Error(Exception):
     def __init__(self, code):
         self.code = code
         self.name = _NAMES.get(code, "?")
-        super().__init__(f"libblink refused a call: {self.name} ({code})")
+        text = _MESSAGES.get(self.name)
+        super().__init__(f"libblink refused a call: {self.name} ({code})" + (f": {text}" if text else ""))
 
 
 def _struct(name, *fields):
@@ -512,7 +524,7 @@ class Session(_Ranges, _Updates):
 
 
 class Map(_Owner):
-    """The entries of an index, which threads change together, each by a session. Room is given by pages, rows and sessions."""
+    """The entries of an index, which threads change together, each by a session. `room_for` works out pages and rows."""
 
     _kind = "map"
 
@@ -606,6 +618,17 @@ class Table(_Owner):
         """Gives the index of all entries, once each pass is given back. The table is given up either way."""
         handle = self._take()
         return Index._filled(lambda out: _library.blink_table_close(handle, out))
+
+
+def room_for(index, insertions, sessions):
+    """A room that is enough for so many insertions of absent keys into a map over this index, as blink_room_for works it out."""
+    insertions, sessions = _number(insertions, 32), _number(sessions, 32)
+    half = (index.fan() + 1) // 2
+    leaves = index.pages() + insertions // half
+    pages = leaves * half // (half - 1) + 21 + 534 * sessions
+    rows = 2 * pages + 300 * sessions
+    most = 2**32 - 1
+    return Room(min(pages, most), min(rows, most), sessions)
 
 
 def _opens(index, kind, *values):

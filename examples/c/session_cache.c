@@ -54,9 +54,12 @@ int main(void) {
     blink_map map = {NULL};
     struct worker workers[THREADS] = {0};
     pthread_t threads[THREADS];
-    // a request writes a page once or twice; 10,000 users on pages of 16 to 32 entries are some 600 pages
+    // room for each user's key once is enough, however often users come and go: a leaf has place for all users whose keys belong there,
+    // once these are 32 or fewer, and is split no more
+    uint32_t room_pages, rows;
     expect(blink_index_new(32, &index));
-    expect(blink_map_open(&index, 3000, 10000, THREADS, &map));
+    blink_room_for(&index, USERS, THREADS, &room_pages, &rows);
+    expect(blink_map_open(&index, room_pages, rows, THREADS, &map));
     blink_index_free(index);
     for (int i = 0; i < THREADS; i++) {
         workers[i].random = (uint64_t)i + 1;
@@ -75,7 +78,7 @@ int main(void) {
     blink_map_free(map);
     uint64_t left = blink_index_len(&index);
     blink_index_free(index);
-    printf("%llu pages, %llu logins, %llu logouts, %llu expiries, %llu users at the end\n", (unsigned long long)pages,
+    printf("%llu pages shown, %llu logins, %llu logouts, %llu expiries, %llu users at the end\n", (unsigned long long)pages,
            (unsigned long long)logins, (unsigned long long)logouts, (unsigned long long)expiries, (unsigned long long)left);
     if (logins != logouts + expiries + left) exit(fprintf(stderr, "a login was lost\n"));
     printf("%llu requests: each login has ended, or is in the cache\n", (unsigned long long)clock_of_requests);

@@ -75,7 +75,9 @@ static void shares_an_index() {
 static void shares_a_map() {
     enum { THREADS = 8, KEYS = 100, TURNS = 300 };
     blink::Index index(16);
-    blink::Map map(index, {5000, 20000, THREADS});
+    blink::Room room = blink::Room::for_insertions(index, KEYS + 2000, THREADS);
+    CHECK(room.pages > 4000 && room.rows == 2 * room.pages + 300 * THREADS && room.sessions == THREADS);
+    blink::Map map(index, room);
     std::vector<std::thread> threads;
     for (int i = 0; i < THREADS; i++)
         threads.emplace_back([session = map.join()]() mutable {

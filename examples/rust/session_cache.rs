@@ -2,7 +2,7 @@
 //! request of a user who isn't there logs in; one of a user who was idle for too long logs out first. Run:
 //! cargo run --release --bin session_cache
 
-use blink::{Answer, Error, Index, Map, Room, Session};
+use blink::{Answer, Error, Map, Session};
 use std::sync::atomic::{AtomicU64, Ordering};
 use std::thread;
 
@@ -60,13 +60,9 @@ fn serve(map: &Map, thread: u64, clock: &AtomicU64) -> Result<Served, Error> {
 }
 
 fn main() -> Result<(), Error> {
-    // a request writes a page once or twice; 10,000 users on pages of 16 to 32 entries are some 600 pages
-    let room = Room {
-        pages: 10_000,
-        rows: 10_000,
-        sessions: THREADS as u32,
-    };
-    let map = Map::open(&Index::new(32)?, room)?;
+    // room for each user's key once is enough, however often users come and go: a leaf has place for all users whose keys belong there,
+    // once these are 32 or fewer, and is split no more
+    let map = Map::with_capacity(USERS as u32, THREADS as u32)?;
     let clock = AtomicU64::new(0);
     let all = thread::scope(|scope| {
         let (map, clock) = (&map, &clock);
@@ -76,7 +72,7 @@ fn main() -> Result<(), Error> {
     let sum = |count: fn(&Served) -> u64| all.iter().map(count).sum::<u64>();
     let (logins, logouts, expiries) = (sum(|s| s.logins), sum(|s| s.logouts), sum(|s| s.expiries));
     let left = map.close()?.len() as u64;
-    println!("{} pages, {logins} logins, {logouts} logouts, {expiries} expiries, {left} users at the end", sum(|s| s.pages));
+    println!("{} pages shown, {logins} logins, {logouts} logouts, {expiries} expiries, {left} users at the end", sum(|s| s.pages));
     assert_eq!(logins, logouts + expiries + left, "a login was lost");
     println!("{} requests: each login has ended, or is in the cache", clock.into_inner());
     Ok(())
