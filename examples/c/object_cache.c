@@ -106,7 +106,10 @@ int main(void) {
     blink_index index = {NULL};
     blink_map map = {NULL};
     expect(blink_index_new(32, &index));
-    expect(blink_map_open(&index, 5000, 100000, THREADS, &map));
+    // room for each key once is enough, however often its object comes and goes
+    uint32_t pages, rows;
+    blink_room_for(&index, KEYS, THREADS, &pages, &rows);
+    expect(blink_map_open(&index, pages, rows, THREADS, &map));
     blink_index_free(index);
     for (int i = 0; i < THREADS; i++) {
         struct worker *it = &workers[i];

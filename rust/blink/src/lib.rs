@@ -30,7 +30,7 @@
 //! - [`keys`] makes keys of signed numbers, of floats and of pairs, in their order.
 //! - [`Pending`] is an operation of a pass that has begun and waits for nobody; [`Unfinished`] is one of a session.
 //!
-//! Who comes from a `BTreeMap` finds these under other names, since an insertion here leaves a present key as it is:
+//! A `BTreeMap`'s calls have these names here. `insert` differs most: it leaves a present key as it is.
 //!
 //! `BTreeMap` | An [`Index`], and a [`Session`] of a map
 //! ---|---

@@ -263,7 +263,8 @@ impl Map {
     /// was dropped and couldn't be ended has made its change, or never makes it. It is refused with [`Error::Missing`], if a session was
     /// leaked, as by [`std::mem::forget`]; with [`Error::OutOfMemory`]; and with [`Error::TooLarge`] only where such an operation was lost,
     /// and the entries need more pages than there are numbers. Each gives the map back with all its entries, and it can be closed again;
-    /// no session may join any more after the second. `?` drops the map that comes back: who may need it matches.
+    /// no session may join any more after the second. With `?` the map that comes back is dropped, with its entries. A program that may need
+    /// them matches on [`Unclosed`].
     pub fn close(self) -> Result<Index, Unclosed> {
         let index = Index::filled(|out| {
             // SAFETY: the handle is full, and locked; `out` is empty.
