@@ -528,7 +528,8 @@ static inline int blink_map_open(blink_index *index, uint32_t pages, uint32_t ro
 /* Stores the page numbers and rows that are enough for so many insertions of absent keys into a map over this index, whatever their keys
  * and their order, by so many sessions, and for any number of other changes. Each leaf of the index may be full and split once; after that
  * a leaf splits again once half of a page has been inserted into it. Random keys take about two thirds of these page numbers. Beside them,
- * each session gets 534, since it may have drawn so many and not used them. What is too large, blink_map_open refuses. */
+ * each session gets 534, since it may have drawn so many and not used them. With their rows they take 0.8 MB, whether the session is there or
+ * not. What is too large, blink_map_open refuses. */
 static inline void blink_room_for(blink_index *index, uint32_t insertions, uint32_t sessions, uint32_t *pages, uint32_t *rows) {
     uint64_t half = (blink_index_fan(index) + 1u) / 2; /* so many insertions fill the half that a split leaves */
     uint64_t leaves = blink_index_pages(index) + insertions / half;

@@ -45,7 +45,7 @@ private:
 namespace detail {
 
 // How many steps in vain an operation takes before its thread yields.
-constexpr std::uint32_t tries = BLINK_TRIES;
+constexpr std::uint32_t most_in_vain = BLINK_TRIES;
 
 inline void check(int code) {
     if (code != BLINK_DONE) throw Error(code);
@@ -334,23 +334,23 @@ public:
         return detail::pointer_of(answer);
     }
     Answer insert(Key key, Pointer pointer) {
-        return ended([=](auto *it, Answer *answer) { return blink_session_insert(it, key, pointer, detail::tries, answer); });
+        return ended([=](auto *it, Answer *answer) { return blink_session_insert(it, key, pointer, detail::most_in_vain, answer); });
     }
     Answer remove(Key key) {
-        return ended([=](auto *it, Answer *answer) { return blink_session_delete(it, key, detail::tries, answer); });
+        return ended([=](auto *it, Answer *answer) { return blink_session_delete(it, key, detail::most_in_vain, answer); });
     }
     Answer replace(Key key, Pointer pointer) {
-        return ended([=](auto *it, Answer *answer) { return blink_session_replace(it, key, pointer, detail::tries, answer); });
+        return ended([=](auto *it, Answer *answer) { return blink_session_replace(it, key, pointer, detail::most_in_vain, answer); });
     }
     Answer exchange(Key key, Pointer expected, Pointer pointer) {
-        return ended([=](auto *it, Answer *answer) { return blink_session_exchange(it, key, expected, pointer, detail::tries, answer); });
+        return ended([=](auto *it, Answer *answer) { return blink_session_exchange(it, key, expected, pointer, detail::most_in_vain, answer); });
     }
     Answer remove_exact(Key key, Pointer expected) {
-        return ended([=](auto *it, Answer *answer) { return blink_session_delete_exact(it, key, expected, detail::tries, answer); });
+        return ended([=](auto *it, Answer *answer) { return blink_session_delete_exact(it, key, expected, detail::most_in_vain, answer); });
     }
     // Maps the key to the pointer, and returns the one that was there.
     std::optional<Pointer> put(Key key, Pointer pointer) {
-        return detail::pointer_of(ended([=](auto *it, Answer *answer) { return blink_session_put(it, key, pointer, detail::tries, answer); }));
+        return detail::pointer_of(ended([=](auto *it, Answer *answer) { return blink_session_put(it, key, pointer, detail::most_in_vain, answer); }));
     }
     std::vector<Entry> scan(Key lo, Key hi) {
         return detail::scanned(&handle_, [](auto... all) { return blink_session_scan(all...); }, lo, hi);
@@ -373,7 +373,7 @@ private:
     template <class Begin> Answer ended(Begin begin) {
         Answer answer{0, 0};
         for (int code = begin(&handle_, &answer);;) {
-            if (code == BLINK_PENDING) code = blink_session_advance(&handle_, detail::tries, &answer);
+            if (code == BLINK_PENDING) code = blink_session_advance(&handle_, detail::most_in_vain, &answer);
             else if (code == BLINK_ROWS_BUSY) code = begin(&handle_, &answer);
             else return detail::check(code), answer;
             if (code == BLINK_PENDING || code == BLINK_ROWS_BUSY) std::this_thread::yield();
@@ -473,7 +473,7 @@ private:
     Answer ended(int code) {
         detail::check(code);
         Answer answer{0, 0};
-        while ((code = blink_pass_advance(&handle_, detail::tries, &answer)) == BLINK_PENDING) std::this_thread::yield();
+        while ((code = blink_pass_advance(&handle_, detail::most_in_vain, &answer)) == BLINK_PENDING) std::this_thread::yield();
         detail::check(code);
         return answer;
     }

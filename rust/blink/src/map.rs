@@ -10,7 +10,8 @@ use std::ops::{Bound, RangeBounds};
 use std::sync::{Arc, Mutex, MutexGuard, PoisonError};
 use std::thread;
 
-/// What a map has beside its entries, for changes and sessions to come.
+/// What a map has beside its entries, for changes and sessions to come. [`Room::for_insertions`] and [`Map::with_capacity`] work it out; the
+/// numbers are for a program that knows its keys.
 #[derive(Clone, Copy, Debug, PartialEq, Eq, Hash)]
 pub struct Room {
     /// Page numbers. A split of a page takes one. An insertion has to have 22 when it begins, and uses none mostly. A session with
@@ -33,7 +34,7 @@ impl Room {
     /// A room over this index that is enough for so many insertions of absent keys, whatever their keys and their order, by so many sessions,
     /// and for any number of other changes. Each leaf of the index may be full and split once; after that a leaf splits again once half of a
     /// page has been inserted into it. Random keys take about two thirds of these page numbers. Beside them, each session gets 534, since it may
-    /// have drawn so many and not used them.
+    /// have drawn so many and not used them. With their rows they take 0.8 MB, whether the session is there or not.
     ///
     /// [`Map::open`] refuses a room that is too large, with [`Error::TooLarge`].
     ///
