@@ -34,7 +34,7 @@
 //!
 //! `BTreeMap` | An [`Index`], and a [`Session`] of a map
 //! ---|---
-//! `new` | [`Index::new`]`(32)?`, or `Index::default()`
+//! `new` | [`Index::new`]`(32)?` or `Index::default()`; of a map [`Map::with_capacity`]
 //! `insert` | `put`, which returns the pointer before; `insert` only inserts
 //! `remove` | `remove(key).pointer()`
 //! `contains_key` | `contains`
