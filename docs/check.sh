@@ -37,7 +37,7 @@ grep -nwE "$old" $documents $shown | grep -v '^docs/CHANGING.md:[0-9]*:Not [*]' 
 done >"$work/found"
 
 # Every .md file, without what a build leaves; of each the lines outside code blocks.
-find . \( -name .git -o -name out \) -prune -o -name '*.md' -print | sed 's|^\./||' | sort >"$work/pages"
+find . \( -name .git -o -name out -o -name target \) -prune -o -name '*.md' -print | sed 's|^\./||' | sort >"$work/pages"
 
 lines=$(wc -l <README.md)
 [ "$lines" -le $most_lines ] || echo "README.md: $lines lines, and $most_lines are enough" >>"$work/found"
@@ -103,7 +103,7 @@ while read -r page; do
 done <"$work/pages" >"$work/quoted"
 
 # The sources, and whatever else is no document.
-find . \( -name .git -o -name out -o -name '*.md' -o -name '*.png' -o -name '*.html' \) -prune -o -type f -print | sed 's|^\./||' >"$work/files"
+find . \( -name .git -o -name out -o -name target -o -name '*.md' -o -name '*.png' -o -name '*.html' \) -prune -o -type f -print | sed 's|^\./||' >"$work/files"
 
 # Paths: from the top, of a crate by its name, or of some crate; and names of files.
 while IFS=: read -r page line text; do
