@@ -1,4 +1,9 @@
 pub mod EntriesBetween
 pub mod PlacesAreFilled
+pub mod NewestRecords
+pub mod RecordsAreTaken
+pub mod WalksOverLeaves
+pub mod KeysAreCopied
+pub mod KeysAreMet
 pub mod LeavesAreCopied
 pub mod ReportsGoOn

@@ -59,6 +59,7 @@ pub mod Parcels
 pub mod Handing
 pub mod Finding
 pub mod Scanning
+pub mod Merging
 pub mod Snapshots
 pub mod Along
 pub mod KeyTest

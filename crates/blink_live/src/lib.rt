@@ -12,6 +12,7 @@ mod hand;
 mod keys;
 mod leaves;
 mod live;
+mod merge;
 mod open;
 mod operations;
 mod read;

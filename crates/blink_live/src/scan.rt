@@ -6,27 +6,29 @@
 //! has been split since; then the scan descends again. The load of the leaf's page word tells the seat the state of each of the leaf's
 //! keys, and nobody stores to the row that it names while the scan reads there. So the entries of one leaf are those of one time;
 //! those of the leaf to the right are of a later one.
-ghost use Rattle.std.specs.Prelude.{◌≡◌, ◌+◌, ◌<◌, ◌≤◌, ℕ, Option, List, IfSome, length, take, drop};
+ghost use Rattle.std.specs.Prelude.{◌≡◌, ◌+◌, ◌<◌, ◌≤◌, List, IfSome, length, take, drop};
 ghost use Rattle.blink_batch.specs.declared.Entry.{Entry};
 ghost use Rattle.blink_page.specs.{PlainPage};
 ghost use Rattle.blink_rows.specs.{row_in};
 ghost use Rattle.blink_live.specs.Along.{GoesAlong, IsNotedLeaf};
 ghost use Rattle.blink_live.specs.Finding.{HasSearched, IsIdle};
 ghost use Rattle.blink_live.specs.Handles.{IsPassOf, IsSameBesideSeen, KnowsItsKeys, keys_of, opening_of, seen_of, share_of};
+ghost use Rattle.blink_live.specs.Merging.{AreNewest};
 ghost use Rattle.blink_live.specs.Scanning.{HasScanned, IsCopied, IsFilled, IsReport, ReportLaw, SaysOfKeys, StoppedFull, stop_of};
 ghost use Rattle.blink_live.specs.Seats.{HasSameNumber, HasStates, IsPassSeat, IsSameSeat, ReadsLeaf, ReadsPage};
 ghost use Rattle.blink_live.specs.Views.{known_of};
 ghost use Rattle.blink_live.specs.Words.{IsRowNumber};
 
 use crate::live::{Live, Pass};
+use crate::merge::Walk;
 use crate::read::link_of;
 use crate::rule::GoAlong;
 use crate::view::View;
 use atomic_table::Seat;
 use blink_batch::Entry;
-use blink_page::{MAX_FAN, Page};
+use blink_page::MAX_FAN;
 use blink_rows::layout::{COUNT, HIGH_KEY, RIGHT_LINK};
-use blink_rows::{HEAD_WORDS, records_in, row_in};
+use blink_rows::{HEAD_WORDS, MAX_RECORDS, Record, records_in, row_in};
 
 /// How far a scan came.
 #[derive(Clone, Copy, Debug, PartialEq, Eq)]
@@ -248,8 +250,8 @@ impl Live {
         if records_in(word).count == 0 {
             return self.copy_row(seat, row_in(word), from, hi, into);
         }
-        let page = self.page_in_row(seat, word);
-        copy_page(&page, from, hi, into)
+        let newest = self.newest_records(seat, word);
+        self.copy_merged(seat, row_in(word), &newest, from, hi, into)
     }
 
     // The same of a leaf that has no records.
@@ -298,41 +300,64 @@ impl Live {
         let next = if high < hi { Some(high + 1) } else { None };
         Scanned { filled, next }
     }
-}
 
-// Copies entries of a page in the same way.
-fn copy_page(page: &Page, from: u64, hi: u64, into: &mut [Entry]) -> Scanned
-    requires reaches { from ≤ page.now.high }
-    requires range { from ≤ hi }
-    requires some_place { 1 ≤ length into.old }
-    ensures copied { (known : ℕ → Option ℕ) → HasStates known from page.now
-        → (entries : List Entry) × IsFilled entries into.old into.new
-        × (result.filled ≡ length entries)
-        × IsCopied known from (stop_of hi result.next) entries }
-    ensures further { IfSome result.next (λ next. (from < next) × (next ≤ hi)) }
-{
-    let mut filled = 0;
-    for &(key, pointer) in page.items.iter() {
-        if key > hi {
-            return Scanned { filled, next: None };
-        }
-        if key >= from {
+    // The same of a leaf that has records: these are the newest of their keys.
+    fn copy_merged(
+        &self,
+        seat: &mut Seat<u8, View>,
+        row: u64,
+        newest: &[Record],
+        from: u64,
+        hi: u64,
+        into: &mut [Entry],
+    ) -> Scanned
+        requires seat { IsPassSeat self.now seat.old.table_id seat.old.me }
+        requires row { IsRowNumber self.now.counts row }
+        requires few { length newest.now ≤ MAX_RECORDS }
+        requires leaf { (base : PlainPage) × (leaf : PlainPage) × ReadsPage seat.old.me row base
+            × AreNewest base leaf newest.now × HasStates (known_of seat.old.me.0) from leaf }
+        requires range { from ≤ hi }
+        requires some_place { 1 ≤ length into.old }
+        ensures same { IsSameSeat seat.old seat.new }
+        ensures copied { (entries : List Entry) × IsFilled entries into.old into.new
+            × (result.filled ≡ length entries)
+            × IsCopied (known_of seat.old.me.0) from (stop_of hi result.next) entries }
+        ensures further { IfSome result.next (λ next. (from < next) × (next ≤ hi)) }
+    {
+        let start = self.row_place(row);
+        let count = self.load_word(seat, start, COUNT) as usize;
+        let mut walk = Walk {
+            entries: 0,
+            records: 0,
+        };
+        let mut filled = 0;
+        while let Some(met) = self.next_key(seat, start, count, newest, walk) {
+            if met.key > hi {
+                return Scanned { filled, next: None };
+            }
+            walk = met.walk;
+            if met.key < from {
+                continue;
+            }
+            let Some(pointer) = met.pointer else {
+                continue;
+            };
             if filled == into.len() {
                 return Scanned {
                     filled,
-                    next: Some(key),
+                    next: Some(met.key),
                 };
             }
-            into[filled] = Entry { key, pointer };
+            into[filled] = Entry {
+                key: met.key,
+                pointer,
+            };
             filled += 1;
         }
+        let last = self.load_word(seat, start, HIGH_KEY);
+        let next = if last < hi { Some(last + 1) } else { None };
+        Scanned { filled, next }
     }
-    let next = if page.high < hi {
-        Some(page.high + 1)
-    } else {
-        None
-    };
-    Scanned { filled, next }
 }
 
 /// States what a report tells of each key, whatever the fronts are.

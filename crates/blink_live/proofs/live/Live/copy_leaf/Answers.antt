@@ -1,16 +1,18 @@
-use Rattle.std.proofs.Common.{◌≤◌, sym, subst}
-use Rattle.blink_page.specs.{PlainPage}
-use Rattle.blink_live.specs.Seats.{HasStates}
-use Rattle.blink_live.specs.Views.{known_of}
+use Rattle.std.proofs.Common.{sym, subst}
+use Rattle.blink_live.specs.Merging.{AreNewest}
+use Rattle.blink_live.specs.Seats.{HasStates, ReadsPage}
+use Rattle.blink_live.specs.Views.{SeatState, known_of}
+use Rattle.blink_live.proofs.found.VersionsAreRead.{base_in}
 use Rattle.blink_live.proofs.live.Live.copy_leaf.Goals as goal
 
-pub copy_page-requires-clause-reaches : goal.copy_page-requires-clause-reaches
-copy_page-requires-clause-reaches c =
+pub copy_merged-requires-clause-leaf : goal.copy_merged-requires-clause-leaf
+copy_merged-requires-clause-leaf c =
     let leaf = c.requires.leaf in
-    subst (λ (p : PlainPage). c.args.from ≤ p.high) (sym (c.page_in_row-page.ensures.page leaf.leaf leaf.reads)) leaf.reaches
-
-pub returns-clause-copied : goal.returns-clause-copied
-returns-clause-copied c =
-    let leaf = c.requires.leaf in
-    c.copy_page.ensures.copied (known_of c.args.seat.now.me.0)
-    (subst (HasStates (known_of c.args.seat.now.me.0) c.args.from) (sym (c.page_in_row-page.ensures.page leaf.leaf leaf.reads)) (record { reaches = leaf.reaches; states = leaf.states }))
+    let base = leaf.reads.base in
+    let same = c.newest_records-newest.ensures.same.2 in (
+      base,
+      leaf.leaf,
+      subst (λ (me : SeatState). ReadsPage me c.row_in-2.result base) (sym same) (base_in leaf.reads c.row_in-2.ensures.row),
+      subst (AreNewest base leaf.leaf) (sym c.deref.ensures.0) (c.newest_records-newest.ensures.newest leaf.leaf leaf.reads),
+      subst (λ (me : SeatState). HasStates (known_of me.0) c.args.from leaf.leaf) (sym same) (record { reaches = leaf.reaches; states = leaf.states }),
+    )

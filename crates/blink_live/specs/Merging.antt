@@ -1,0 +1,54 @@
+-- A leaf whose row has records: the newest record of each key, and a walk over them and the base's entries by ascending keys.
+use Rattle.std.specs.Prelude.{◌≡◌, ℕ, suc, ◌+◌, ◌<◌, ◌≤◌, ◌==◌, nat_le, if◌then◌else◌, Option, Some, List, [], ◌∷◌}
+use Rattle.blink_page.specs.{PlainPage, value_at}
+use Rattle.blink_rows.specs.{pointer_after}
+use Rattle.blink_rows.specs.declared.log.Record.{Record}
+
+-- ---- records of different keys, by ascending keys
+
+-- the keys ascend, from `from` to below `to`
+abbrev pub RecordsRise : ℕ → List Record → ℕ → Type 0
+RecordsRise from [] to = from ≤ to
+RecordsRise from (r ∷ rest) to = (from ≤ r.key) × RecordsRise (r.key + 1) rest to
+
+-- the number of records before the first whose key is at least `key`
+abbrev pub place_among : ℕ → List Record → ℕ
+place_among key [] = 0
+place_among key (r ∷ rest) = if nat_le key r.key then 0 else suc (place_among key rest)
+
+-- the list with one record more, unless there is one of its key
+abbrev pub with_older : Record → List Record → List Record
+with_older older [] = older ∷ []
+with_older older (r ∷ rest) =
+    if nat_le older.key r.key then (if r.key == older.key then r ∷ rest else older ∷ r ∷ rest) else r ∷ with_older older rest
+
+-- the pointer that a key has by its record; without one it is as it was
+abbrev pub told : List Record → ℕ → Option ℕ → Option ℕ
+told [] key kept = kept
+told (r ∷ rest) key kept = if r.key == key then pointer_after r else told rest key kept
+
+-- these are the newest records of the keys that make this page of this base
+pub record AreNewest (base page : PlainPage) (records : List Record) : Type 0 where
+  pub same_high : page.high ≡ base.high
+  pub rise : RecordsRise 0 records (base.high + 1)
+  pub tell : (key : ℕ) → value_at key page.entries ≡ told records key (value_at key base.entries)
+
+-- ---- a walk
+
+-- the key is below those of all these entries, or records
+abbrev pub IsBelowEntries : ℕ → List (ℕ × ℕ) → Type 0
+IsBelowEntries key [] = Unit {0}
+IsBelowEntries key ((k, v) ∷ rest) = key < k
+
+abbrev pub IsBelowRecords : ℕ → List Record → Type 0
+IsBelowRecords key [] = Unit {0}
+IsBelowRecords key (r ∷ rest) = key < r.key
+
+-- the least key of these entries and records, and the pointer that it has; those behind it are left
+pub data IsNext (entries : List (ℕ × ℕ)) (records : List Record) (key : ℕ) (kept : Option ℕ) (entries_left : List (ℕ × ℕ)) (records_left : List Record) : Type 0 where
+  entry_alone : (pointer : ℕ) → entries ≡ (key, pointer) ∷ entries_left → kept ≡ Some pointer → records_left ≡ records → IsBelowRecords key records
+      → IsNext entries records key kept entries_left records_left
+  record_alone : (r : Record) → records ≡ r ∷ records_left → r.key ≡ key → kept ≡ pointer_after r → entries_left ≡ entries → IsBelowEntries key entries
+      → IsNext entries records key kept entries_left records_left
+  in_both : (r : Record) (pointer : ℕ) → entries ≡ (key, pointer) ∷ entries_left → records ≡ r ∷ records_left → r.key ≡ key → kept ≡ pointer_after r
+      → IsNext entries records key kept entries_left records_left
