@@ -3,12 +3,14 @@
 #![tactic(auto)]
 
 mod back;
+mod count;
 mod down;
 mod dump;
 mod pack;
 mod scan;
 
 pub use back::ScanBack;
+pub use count::entry_count;
 pub use down::{leaf_for, leaf_number};
 pub use dump::{OrDash, push_entries, tree_text};
 pub use pack::{add_entry, first_leaf, pages_needed, tree_over};

@@ -1,4 +1,5 @@
 pub mod alone
 pub mod OneOperationMore
 pub mod EndsOfMaps
+pub mod CountsOfMaps
 pub mod Offered

@@ -1,5 +1,5 @@
 //! A tree at rest, as a map to be read.
-ghost use Rattle.std.specs.Prelude.{◌≡◌, ℕ, ◌↔◌, List, [], filter, length, reverse, string_bytes, IfOk, IsErrOf, IsOkUnless, take};
+ghost use Rattle.std.specs.Prelude.{◌≡◌, ℕ, ◌↔◌, List, [], filter, length, reverse, string_bytes, IfOk, IsErrOf, IsOkUnless, IsTrue, take};
 ghost use Rattle.blink_operation.specs.{pointer_of};
 ghost use Rattle.blink_page.specs.{value_at, IsBadFan, IsPageNumber};
 ghost use Rattle.blink_rest.specs.{AreEntries, IsStoreAtRest, IsMapOf};
@@ -15,7 +15,7 @@ mod ends;
 mod sorted;
 
 use crate::error::IndexError;
-use blink_entries::{Scan, ScanBack, leaf_for, tree_text};
+use blink_entries::{Scan, ScanBack, entry_count, leaf_for, tree_text};
 use blink_operation::Entry;
 use blink_page::{MAX_FAN, MIN_FAN};
 use blink_rest::Rest;
@@ -31,6 +31,8 @@ use std::marker::Model;
 #[derive(Debug, Drop)]
 pub struct Index {
     rest: Rest,
+    // The number of entries.
+    count: usize,
 }
 
 impl Model for Index {
@@ -39,6 +41,11 @@ impl Model for Index {
     ghost Value = { PlainStore };
 
     ghost view = { λ index. index.rest };
+
+    ghost use Rattle.std.specs.Prelude.{◌≡◌, length};
+    ghost use Rattle.blink_entries.specs.Index.{map_of};
+
+    ghost invariant = { λ index. index.count ≡ length (map_of index.rest) };
 }
 
 impl Index {
@@ -55,16 +62,17 @@ impl Index {
             return Err(IndexError::BadFan);
         }
         match Rest::empty(alloc, fan) {
-            Ok(rest) => Ok(Index { rest }),
+            Ok(rest) => Ok(Index { rest, count: 0 }),
             Err(_) => Err(IndexError::OutOfMemory),
         }
     }
 
-    /// Makes an index of a tree at rest. The call takes no memory.
+    /// Makes an index of a tree at rest. The call takes no memory. It reads how many entries each leaf has.
     pub fn from_rest(rest: Rest) -> Index
         ensures { result ≡ rest }
     {
-        Index { rest }
+        let count = entry_count(rest.store());
+        Index { rest, count }
     }
 
     /// Returns the tree, to be read.
@@ -92,13 +100,30 @@ impl Index {
         self.store().pages()
     }
 
+    /// Returns the number of entries. The index keeps it, so no page is read.
+    pub fn len(&self) -> usize
+        ensures { result ≡ length (map_of self.now) }
+    {
+        self.count
+    }
+
+    /// Returns whether the index has no entry.
+    pub fn is_empty(&self) -> bool
+        ensures { IsTrue result ↔ (map_of self.now ≡ []) }
+    {
+        self.count == 0
+    }
+
     /// Copies the index. Each page has the same number in the copy.
     pub fn copy(&self, alloc: Global) -> Result<Index, IndexError>
         ensures index { IfOk result (λ index. index ≡ self.now) }
         ensures refused { IsOkUnless result IndexError.OutOfMemory }
     {
         match self.rest.copy(alloc) {
-            Ok(rest) => Ok(Index { rest }),
+            Ok(rest) => Ok(Index {
+                rest,
+                count: self.count,
+            }),
             Err(_) => Err(IndexError::OutOfMemory),
         }
     }

@@ -48,10 +48,16 @@ impl Index {
             return Err(EditError::TooLarge);
         }
         match put(&mut self.rest, key, pointer) {
-            Put::Done => Ok(Answer::Inserted),
+            Put::Done => {
+                self.count += 1;
+                Ok(Answer::Inserted)
+            }
             Put::Present(kept) => Ok(Answer::Exists(kept)),
             Put::Full => match split(&mut self.rest, key, pointer) {
-                Ok(()) => Ok(Answer::Inserted),
+                Ok(()) => {
+                    self.count += 1;
+                    Ok(Answer::Inserted)
+                }
                 Err(refusal) => Err(refusal),
             },
         }
@@ -67,7 +73,10 @@ impl Index {
         ensures same_fan { self.new.fan ≡ self.old.fan }
         ensures same_page_count { length self.new.pages ≡ length self.old.pages }
     {
+        // Called for the proof: a tree at rest has its entries as a map.
+        let _rest = self.rest();
         let kept = take(&mut self.rest, key);
+        self.count -= usize::from(kept.is_some());
         Op::Delete(key).answer(kept)
     }
 

@@ -53,27 +53,12 @@ impl Index {
         // Called for the proof: there are no more pages than numbers.
         let _pages = self.page_count();
         let fan = self.store().fan();
-        let count = pages_needed(self.entry_count(), fan);
+        let count = pages_needed(self.len(), fan);
         let mut pages = first_leaf(alloc, count)?;
         let mut scan = self.scan(0, u64::MAX);
         'entries: while let Some(entry) = scan.next() {
             add_entry(&mut pages, fan, entry.key, entry.pointer)?;
         }
         tree_over(pages, fan)
-    }
-
-    // The number of entries.
-    fn entry_count(&self) -> usize
-        ensures { result ≡ length (map_of self.now) }
-    {
-        // Called for the proof: pages and their entries are bounded.
-        let _pages = self.page_count();
-        let _fan = self.store().fan();
-        let mut scan = self.scan(0, u64::MAX);
-        let mut count = 0;
-        'entries: while let Some(_entry) = scan.next() {
-            count += 1;
-        }
-        count
     }
 }

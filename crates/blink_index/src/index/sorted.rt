@@ -45,7 +45,10 @@ impl Index {
             return Err(SortedError::TooLarge);
         }
         match packed(alloc, fan, entries, count) {
-            Ok(rest) => Ok(Index { rest }),
+            Ok(rest) => Ok(Index {
+                rest,
+                count: entries.len(),
+            }),
             Err(_) => Err(SortedError::OutOfMemory),
         }
     }

@@ -39,8 +39,8 @@ pub add_entry-requires-clause-number : goal.add_entry-requires-clause-number
 add_entry-requires-clause-number c =
     let store = c.args.self.now in
     let parts = ap (λ (es : List Entry). entries_from (entries_in c.entries.pages.items) ++ es) (sym c.in-Some.ensures.steps) ∙ c.entries.invariant.parts in
-    let own = own_needs store c.fan-fan.result c.entry_count.result c.pages_needed-count.result c.store.ensures.at_rest c.scan-scan.ensures.map (c.fan-fan.ensures.fan ∙ ap (λ (s : PlainStore). s.fan) c.store.ensures.store) c.entry_count.ensures c.pages_needed-count.ensures in
-    let few = no_more store c.fan-fan.result c.entry_count.result c.pages_needed-count.result c.store.ensures.at_rest c.scan-scan.ensures.map (c.fan-fan.ensures.fan ∙ ap (λ (s : PlainStore). s.fan) c.store.ensures.store) c.entry_count.ensures c.pages_needed-count.ensures in
+    let own = own_needs store c.fan-fan.result c.len.result c.pages_needed-count.result c.store.ensures.at_rest c.scan-scan.ensures.map (c.fan-fan.ensures.fan ∙ ap (λ (s : PlainStore). s.fan) c.store.ensures.store) c.len.ensures c.pages_needed-count.ensures in
+    let few = no_more store c.fan-fan.result c.len.result c.pages_needed-count.result c.store.ensures.at_rest c.scan-scan.ensures.map (c.fan-fan.ensures.fan ∙ ap (λ (s : PlainStore). s.fan) c.store.ensures.store) c.len.ensures c.pages_needed-count.ensures in
     let count = c.page_count-pages.ensures.count in let range = c.page_count-pages.ensures.in_range.1 in
     number_for_entry c.fan-fan.result (length (map_of store)) c.pages_needed-count.result own (omega (arith, few, count, range)) c.entries.pages.items c.entries.invariant.leaves
     (fewer_so_far store (map_of store) c.scan-scan.ensures.map (entries_in c.entries.pages.items) c.in-Some.entry c.next.new.self parts)
@@ -58,8 +58,8 @@ pub tree_over-requires-clause-numbers : goal.tree_over-requires-clause-numbers
 tree_over-requires-clause-numbers c =
     let store = c.args.self.now in
     let all = all_given (entries_in c.entries.pages.items) c.entries.scan (map_of store) c.in_default.ensures.steps.0 c.entries.invariant.parts in
-    let own = own_needs store c.fan-fan.result c.entry_count.result c.pages_needed-count.result c.store.ensures.at_rest c.scan-scan.ensures.map (c.fan-fan.ensures.fan ∙ ap (λ (s : PlainStore). s.fan) c.store.ensures.store) c.entry_count.ensures c.pages_needed-count.ensures in
-    let few = no_more store c.fan-fan.result c.entry_count.result c.pages_needed-count.result c.store.ensures.at_rest c.scan-scan.ensures.map (c.fan-fan.ensures.fan ∙ ap (λ (s : PlainStore). s.fan) c.store.ensures.store) c.entry_count.ensures c.pages_needed-count.ensures in
+    let own = own_needs store c.fan-fan.result c.len.result c.pages_needed-count.result c.store.ensures.at_rest c.scan-scan.ensures.map (c.fan-fan.ensures.fan ∙ ap (λ (s : PlainStore). s.fan) c.store.ensures.store) c.len.ensures c.pages_needed-count.ensures in
+    let few = no_more store c.fan-fan.result c.len.result c.pages_needed-count.result c.store.ensures.at_rest c.scan-scan.ensures.map (c.fan-fan.ensures.fan ∙ ap (λ (s : PlainStore). s.fan) c.store.ensures.store) c.len.ensures c.pages_needed-count.ensures in
     let count = c.page_count-pages.ensures.count in let range = c.page_count-pages.ensures.in_range.1 in
     numbers_above c.fan-fan.result (length (map_of store)) c.pages_needed-count.result own (omega (arith, few, count, range)) c.entries.pages.items c.entries.invariant.leaves
     (sym (length-entries_from (entries_in c.entries.pages.items)) ∙ ap length all)
@@ -84,8 +84,8 @@ pub returns-clause-no_more : goal.returns-clause-no_more
 returns-clause-no_more c =
     let store = c.args.self.now in
     let all = all_given (entries_in c.entries.pages.items) c.entries.scan (map_of store) c.in_default.ensures.steps.0 c.entries.invariant.parts in
-    let own = own_needs store c.fan-fan.result c.entry_count.result c.pages_needed-count.result c.store.ensures.at_rest c.scan-scan.ensures.map (c.fan-fan.ensures.fan ∙ ap (λ (s : PlainStore). s.fan) c.store.ensures.store) c.entry_count.ensures c.pages_needed-count.ensures in
-    let few = no_more store c.fan-fan.result c.entry_count.result c.pages_needed-count.result c.store.ensures.at_rest c.scan-scan.ensures.map (c.fan-fan.ensures.fan ∙ ap (λ (s : PlainStore). s.fan) c.store.ensures.store) c.entry_count.ensures c.pages_needed-count.ensures in
+    let own = own_needs store c.fan-fan.result c.len.result c.pages_needed-count.result c.store.ensures.at_rest c.scan-scan.ensures.map (c.fan-fan.ensures.fan ∙ ap (λ (s : PlainStore). s.fan) c.store.ensures.store) c.len.ensures c.pages_needed-count.ensures in
+    let few = no_more store c.fan-fan.result c.len.result c.pages_needed-count.result c.store.ensures.at_rest c.scan-scan.ensures.map (c.fan-fan.ensures.fan ∙ ap (λ (s : PlainStore). s.fan) c.store.ensures.store) c.len.ensures c.pages_needed-count.ensures in
     let count = c.page_count-pages.ensures.count in let range = c.page_count-pages.ensures.in_range.1 in
     IfOk-weaker c.tree_over.result _ (λ rest. length rest.pages ≤ length store.pages)
     (λ rest bound. let at_most = few_pages store rest c.fan-fan.result c.pages_needed-count.result c.entries.pages.items own (omega (arith, few, count, range)) c.entries.invariant.leaves all bound in
@@ -95,12 +95,12 @@ pub returns-clause-pages : goal.returns-clause-pages
 returns-clause-pages c = both c.tree_over.result c.tree_over.ensures.in_order (returns-clause-map c) (returns-clause-fan c) c.tree_over.ensures.few
   where
     own : NeedsPages c.fan-fan.result (length (map_of c.args.self.now)) c.pages_needed-count.result
-    own = let store = c.args.self.now in own_needs store c.fan-fan.result c.entry_count.result c.pages_needed-count.result c.store.ensures.at_rest c.scan-scan.ensures.map (c.fan-fan.ensures.fan ∙ ap (λ (s : PlainStore). s.fan) c.store.ensures.store) c.entry_count.ensures c.pages_needed-count.ensures
+    own = let store = c.args.self.now in own_needs store c.fan-fan.result c.len.result c.pages_needed-count.result c.store.ensures.at_rest c.scan-scan.ensures.map (c.fan-fan.ensures.fan ∙ ap (λ (s : PlainStore). s.fan) c.store.ensures.store) c.len.ensures c.pages_needed-count.ensures
 
     few : c.pages_needed-count.result ≤ MAX_PAGE
     few =
         let store = c.args.self.now in
-        let most = no_more store c.fan-fan.result c.entry_count.result c.pages_needed-count.result c.store.ensures.at_rest c.scan-scan.ensures.map (c.fan-fan.ensures.fan ∙ ap (λ (s : PlainStore). s.fan) c.store.ensures.store) c.entry_count.ensures c.pages_needed-count.ensures in
+        let most = no_more store c.fan-fan.result c.len.result c.pages_needed-count.result c.store.ensures.at_rest c.scan-scan.ensures.map (c.fan-fan.ensures.fan ∙ ap (λ (s : PlainStore). s.fan) c.store.ensures.store) c.len.ensures c.pages_needed-count.ensures in
         let count = c.page_count-pages.ensures.count in let range = c.page_count-pages.ensures.in_range.1 in
         omega (arith, most, count, range)
 
