@@ -167,3 +167,7 @@ module _ (store : PlainStore) where
       sym (ap (filter (is_within lo GREATEST_KEY)) same)
       ∙ from_within lo GREATEST_KEY 0 pairs (entries_ascend store.fan store.prime (page_of store) pairs kept.kept)
       ∙ ap (filter (is_from lo)) same
+
+-- no link leads on
+pub no_link : (store : PlainStore) → IsLinkOf store None
+no_link store = record { cells = []; tail = record { level = 0; floor = Some GREATEST_KEY; pages_there = tt; in_line = (refl, refl) }; few = omega arith }

@@ -1,6 +1,6 @@
 -- The entries that a scan gives, up to a key or to a number of entries. They are those that are left of its leaf, and then those
 -- of the leaves from its link on.
-use Rattle.std.specs.Prelude.{ℕ, ◌-◌, ◌≤◌, nat_le, if◌then◌else◌, ◌&&◌, Bool, Option, Some, None, List, [], ◌∷◌, length, take}
+use Rattle.std.specs.Prelude.{ℕ, ◌-◌, ◌≤◌, nat_le, if◌then◌else◌, ◌&&◌, Bool, Option, Some, None, List, [], ◌∷◌, length, min, take}
 use Rattle.std.specs.Iterator.{YieldsFirst}
 use Rattle.std.specs.Iterator.Runs.{YieldsInOrder}
 use Rattle.blink_operation.specs.declared.Entry.{Entry}
@@ -42,6 +42,15 @@ at_most (Some n) entries = take n entries
 abbrev pub one_fewer : Option ℕ → Option ℕ
 one_fewer None = None
 one_fewer (Some n) = Some (n - 1)
+
+-- how many of so many entries may come, and how many after them
+abbrev pub first_of : ℕ → Option ℕ → ℕ
+first_of count None = count
+first_of count (Some n) = min count n
+
+abbrev pub fewer : Option ℕ → ℕ → Option ℕ
+fewer None count = None
+fewer (Some n) count = Some (n - count)
 
 -- a computation over a scan gets the entries that the scan still gives, in order
 abbrev pub BringsInOrder : Type 0

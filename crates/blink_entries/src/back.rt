@@ -1,6 +1,7 @@
 //! The entries of an index in the opposite order of their keys.
-ghost use Rattle.std.specs.Prelude.{◌≡◌, ◌<◌, ◌++◌, [], filter, length, reverse, IfNone, IfSome};
+ghost use Rattle.std.specs.Prelude.{◌≡◌, ◌<◌, ◌≤◌, ◌++◌, [], filter, length, reverse, IfNone, IfSome};
 ghost use Rattle.std.specs.Iterator.{YieldsFirst, item_count};
+ghost use Rattle.blink_page.specs.Rising.{Rises};
 ghost use Rattle.blink_rest.specs.{IsStoreAtRest, entries_from};
 ghost use Rattle.blink_entries.specs.Back.{entries_within};
 ghost use Rattle.blink_entries.specs.Index.{map_of};
@@ -81,10 +82,16 @@ impl<'a> Iterator for ScanBack<'a> {
     }
 }
 
-// The entries up to the first whose key is greater than `hi`.
-fn not_above(entries: &[(u64, u64)], hi: u64) -> &[(u64, u64)]
-    ensures { entries_from result.now ≡ entries_to hi entries.now }
+/// The entries up to the first whose key is greater than `hi`. The last key is compared first: of most leaves it decides.
+pub(crate) fn not_above(entries: &[(u64, u64)], hi: u64) -> &[(u64, u64)]
+    requires { Rises entries.now }
+    ensures entries { entries_from result.now ≡ entries_to hi entries.now }
+    ensures no_more { length result.now ≤ length entries.now }
 {
+    let count = entries.len();
+    if count > 0 && entries[count - 1].0 <= hi {
+        return entries;
+    }
     for (i, &(key, _)) in entries.iter().enumerate() {
         if hi < key {
             return &entries[..i];

@@ -1,11 +1,14 @@
 //! The entries of an index in the order of their keys.
-ghost use Rattle.std.specs.Prelude.{◌≡◌, ◌<◌, [], ◌++◌, drop, filter, length, IfNone, IfSome};
+ghost use Rattle.std.specs.Prelude.{◌≡◌, ◌<◌, None, [], ◌++◌, drop, filter, length, IfNone, IfSome};
 ghost use Rattle.std.specs.Iterator.{YieldsFirst, item_count};
 ghost use Rattle.blink_page.specs.{place_of};
-ghost use Rattle.blink_rest.specs.{IsStoreAtRest};
+ghost use Rattle.blink_page.specs.Rising.{Rises};
+ghost use Rattle.blink_rest.specs.{IsStoreAtRest, entries_from};
+ghost use Rattle.blink_store.specs.{PlainStore};
 ghost use Rattle.blink_entries.specs.Index.{map_of};
-ghost use Rattle.blink_entries.specs.Scan.{IsLinkOf, at_most, entries_after, is_within, one_fewer};
+ghost use Rattle.blink_entries.specs.Scan.{IsLinkOf, at_most, entries_after, entries_to, fewer, first_of, is_within, one_fewer};
 
+use crate::back::not_above;
 use crate::down::leaf_for;
 use blink_operation::Entry;
 use blink_page::Page;
@@ -18,9 +21,9 @@ use std::marker::Model;
 #[derive(Drop)]
 pub struct Scan<'a> {
     store: &'a Store,
-    // What is left of the leaf where the scan stands.
+    // What is left up to `hi` of the leaf where the scan stands.
     entries: &'a [(u64, u64)],
-    // The link to the leaf after it.
+    // The link to the leaf after it, or `None` if that has no entry of the range.
     link: Option<u32>,
     hi: u64,
     // How many entries the scan may still give; `None` if their number has no bound.
@@ -48,13 +51,36 @@ impl<'a> Scan<'a> {
         ensures { result ≡ at_most most (filter (is_within lo hi) (map_of store.now)) }
     {
         let leaf = leaf_for(store, lo);
+        let (entries, link) = up_to(not_below(&leaf.items, lo), leaf.right, hi);
         Scan {
             store,
-            entries: not_below(&leaf.items, lo),
-            link: leaf.right,
+            entries,
+            link,
             hi,
             most,
         }
+    }
+
+    /// Returns the next entries of the scan that stand in one leaf, or `None` at the scan's end. They are compared with `hi` once,
+    /// by the last of the leaf, and copied by their caller; `next` takes them one by one.
+    pub fn next_run(&mut self) -> Option<&'a [(u64, u64)]>
+        ensures run { IfSome result (λ run. self.old ≡ entries_from run.now ++ self.new) }
+        ensures some { IfSome result (λ run. 0 < length run.now) }
+        ensures end { IfNone result (self.old ≡ []) }
+    {
+        if self.most == Some(0) {
+            return None;
+        }
+        if self.entries.is_empty() {
+            let (entries, link) = next_part(self.store, self.link, self.hi)?;
+            self.entries = entries;
+            self.link = link;
+        }
+        let count = first_of(self.entries.len(), self.most);
+        let (run, rest) = self.entries.split_at(count);
+        self.entries = rest;
+        self.most = fewer(self.most, count);
+        Some(run)
     }
 }
 
@@ -70,14 +96,11 @@ impl<'a> Iterator for Scan<'a> {
             return None;
         }
         if self.entries.is_empty() {
-            let leaf = next_leaf(self.store, self.link)?;
-            self.entries = &leaf.items;
-            self.link = leaf.right;
+            let (entries, link) = next_part(self.store, self.link, self.hi)?;
+            self.entries = entries;
+            self.link = link;
         }
         let (&(key, pointer), rest) = self.entries.split_first()?;
-        if key > self.hi {
-            return None;
-        }
         self.entries = rest;
         self.most = one_fewer(self.most);
         Some(Entry { key, pointer })
@@ -94,6 +117,26 @@ pub(crate) fn one_fewer(most: Option<u64>) -> Option<u64>
     }
 }
 
+// How many of so many entries may come.
+fn first_of(count: usize, most: Option<u64>) -> usize
+    ensures { result ≡ first_of count most }
+{
+    match most {
+        Some(n) => count.min(n as usize),
+        None => count,
+    }
+}
+
+// How many entries may come after so many.
+fn fewer(most: Option<u64>, count: usize) -> Option<u64>
+    ensures { result ≡ fewer most count }
+{
+    match most {
+        Some(n) => Some(n.saturating_sub(count as u64)),
+        None => None,
+    }
+}
+
 /// The entries from the first whose key is at least `lo`.
 pub(crate) fn not_below(entries: &[(u64, u64)], lo: u64) -> &[(u64, u64)]
     ensures { result.now ≡ drop (place_of lo entries.now) entries.now }
@@ -104,6 +147,40 @@ pub(crate) fn not_below(entries: &[(u64, u64)], lo: u64) -> &[(u64, u64)]
         }
     }
     &entries[entries.len()..]
+}
+
+// Of the entries of a leaf those up to `hi`, and the link to the next leaf, or `None` if an entry of this one is above `hi`.
+fn up_to(entries: &[(u64, u64)], link: Option<u32>, hi: u64) -> (&[(u64, u64)], Option<u32>)
+    requires { Rises entries.now }
+    ensures entries { (store : PlainStore) → entries_to hi (entries.now ++ entries_after store link)
+        ≡ entries_from result.0.now ++ entries_to hi (entries_after store result.1) }
+    ensures link { (store : PlainStore) → IsLinkOf store link → IsLinkOf store result.1 }
+    ensures last { length result.0.now < length entries.now → result.1 ≡ None }
+{
+    let part = not_above(entries, hi);
+    if part.len() < entries.len() {
+        (part, None)
+    } else {
+        (part, link)
+    }
+}
+
+// The part up to `hi` of the first leaf with an entry, from a link on, and the link to go on by.
+fn next_part(store: &Store, from: Option<u32>, hi: u64) -> Option<(&[(u64, u64)], Option<u32>)>
+    requires { IsLinkOf store.now from }
+    ensures entries { IfSome result (λ part. entries_to hi (entries_after store.now from)
+        ≡ entries_from part.0.now ++ entries_to hi (entries_after store.now part.1)) }
+    ensures link { IfSome result (λ part. IsLinkOf store.now part.1) }
+    ensures some { IfSome result (λ part. 0 < length part.0.now) }
+    ensures end { IfNone result (entries_to hi (entries_after store.now from) ≡ []) }
+{
+    let leaf = next_leaf(store, from)?;
+    let (entries, link) = up_to(&leaf.items, leaf.right, hi);
+    if entries.is_empty() {
+        None
+    } else {
+        Some((entries, link))
+    }
 }
 
 // The first page with an entry, from a link on.
