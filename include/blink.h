@@ -308,7 +308,7 @@ bool blink_index_at_least(blink_index *index, uint64_t key, blink_entry *entry);
 /* The same for the entry with the greatest key up to this one. */
 bool blink_index_at_most(blink_index *index, uint64_t key, blink_entry *entry);
 
-/* The number of entries. It walks all leaves. */
+/* The number of entries, which the index keeps. */
 size_t blink_index_len(blink_index *index);
 
 /* The number of pages, at least 1. */

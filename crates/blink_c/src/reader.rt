@@ -290,13 +290,13 @@ pub extern "C" fn blink_reader_at_most(
     reads::give_entry(reader.get().index().at_most(key), entry)
 }
 
-/// Returns the number of entries. It walks all leaves.
+/// Returns the number of entries, which the index keeps.
 #[unsafe(no_mangle)]
 pub extern "C" fn blink_reader_len(reader: &mut ReaderHandle) -> usize
     ensures entries { result ≡ length (map_of (index_in reader.old.value)) }
     ensures same { reader.new.value ≡ reader.old.value }
 {
-    reads::count(reader.get().index())
+    reader.get().index().len()
 }
 
 /// Returns the number of pages.

@@ -5,6 +5,7 @@ pub mod RunRefusals
 pub mod Found
 pub mod EntriesAreFew
 pub mod Overlays
+pub mod RunsShown
 pub mod RunsInParts
 pub mod PassesCross
 pub mod KeysOfPasses

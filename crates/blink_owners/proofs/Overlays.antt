@@ -25,6 +25,14 @@ overlaid-beyond [] e (place ∷ places) beyond = absurd (omega (arith, beyond))
 overlaid-beyond (x ∷ shown) e [] beyond = refl
 overlaid-beyond (x ∷ shown) e (place ∷ places) beyond = ap (λ (rest : List RawEntry). raw_entry x ∷ rest) (overlaid-beyond shown e places (omega (arith, beyond)))
 
+-- where all places are taken, more entries change none
+pub overlaid-full : (shown more : List Entry) (places : List RawEntry) → length places ≤ length shown → overlaid (shown ++ more) places ≡ overlaid shown places
+overlaid-full [] [] [] full = refl
+overlaid-full [] (e ∷ more) [] full = refl
+overlaid-full [] more (place ∷ places) full = absurd (omega (arith, full))
+overlaid-full (x ∷ shown) more [] full = refl
+overlaid-full (x ∷ shown) more (place ∷ places) full = ap (λ (rest : List RawEntry). raw_entry x ∷ rest) (overlaid-full shown more places (omega (arith, full)))
+
 -- there are as many places as before
 pub length-overlaid : (shown : List Entry) (places : List RawEntry) → length (overlaid shown places) ≡ length places
 length-overlaid [] places = refl
@@ -60,17 +68,3 @@ pub few_reversed : (entries : List Entry) (most : ℕ) → length entries < most
 few_reversed entries most few =
     let counted = length-reverse entries in
     omega (arith, few, counted)
-
--- all keys are at least 0
-from_zero : (entries : List Entry) → filter (is_from 0) entries ≡ entries
-from_zero [] = refl
-from_zero (e ∷ entries) =
-    ap (λ (b : Bool). if b then e ∷ filter (is_from 0) entries else filter (is_from 0) entries) (le-leb 0 e.key (omega arith))
-    ∙ ap (λ (rest : List Entry). e ∷ rest) (from_zero entries)
-
--- so the first entries from 0 on are all, if there aren't more
-all_from_zero : (n : ℕ) (entries : List Entry) → length entries ≤ n → take n (filter (is_from 0) entries) ≡ entries
-all_from_zero n entries few = ap (take n) (from_zero entries) ∙ take_all n entries few
-
-pub whole_page : (page entries : List Entry) → page ≡ take 18446744073709551615 (filter (is_from 0) entries) → length entries < 9223372036854775808 → page ≡ entries
-whole_page page entries is few = is ∙ all_from_zero 18446744073709551615 entries (omega (arith, few))

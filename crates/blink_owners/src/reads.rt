@@ -1,7 +1,10 @@
 //! Reading an index: what the exports of an index and those of a reader do alike.
-ghost use Rattle.std.specs.Prelude.{◌≡◌, ◌≢◌, ◌↔◌, ◌<◌, ◌≤◌, ◌^◌, IsSome, IsTrue, filter, length, map, min, reverse, slice_set, take};
+ghost use Rattle.std.specs.Prelude.{◌≡◌, ◌≢◌, ◌↔◌, ◌<◌, ◌≤◌, ◌^◌, ◌++◌, IsSome, List, IsTrue, filter, length, map, min, reverse, slice_set, take};
+ghost use Rattle.blink_batch.specs.declared.Entry.{Entry};
 ghost use Rattle.blink_batch.specs.{pointer_of};
 ghost use Rattle.blink_index.specs.{is_from, is_up_to, is_within, map_of, text_of_store};
+ghost use Rattle.blink_rest.specs.{entries_from};
+ghost use Rattle.blink_owners.specs.declared.raw.RawEntry.{RawEntry};
 ghost use Rattle.blink_owners.specs.Codes.{code_of};
 ghost use Rattle.blink_owners.specs.Edits.{entry_or};
 ghost use Rattle.blink_owners.specs.Filled.{overlaid, put_if_fits};
@@ -134,26 +137,33 @@ pub fn page_back(
     there
 }
 
-/// Counts the entries. It walks all leaves.
-pub fn count(index: &Index) -> usize
-    ensures { result ≡ length (map_of index.now) }
-{
-    few_entries(index);
-    fill_entries(index.page(0, u64::MAX), &mut [])
-}
-
 // Gives entries, as many as there are places, and returns how many there are.
-fn fill_entries(scan: Scan<'_>, entries: &mut [RawEntry]) -> usize
+fn fill_entries(mut scan: Scan<'_>, entries: &mut [RawEntry]) -> usize
     requires { length scan < 2 ^ 63 }
     ensures there { result ≡ length scan.entry }
     ensures entries { entries.new ≡ overlaid scan.entry entries.old }
 {
     let mut there = 0usize;
-    for entry in scan {
-        set_inside(entries, there, RawEntry::of(entry));
-        there += 1;
+    'runs: while let Some(part) = scan.next_run() {
+        set_run(entries, there, part);
+        there += part.len();
     }
     there
+}
+
+// Sets the places of the array from this one on to a run of entries, as far as the array has them.
+fn set_run(entries: &mut [RawEntry], first: usize, run: &[(u64, u64)])
+    ensures { (shown : List Entry) (places : List RawEntry) → entries.old ≡ overlaid shown places
+        → first ≡ length shown → entries.new ≡ overlaid (shown ++ entries_from run.now) places }
+{
+    if first >= entries.len() {
+        return;
+    }
+    let count = run.len().min(entries.len() - first);
+    for place in 0..count {
+        let (key, pointer) = run[place];
+        entries[first + place] = RawEntry { key, pointer };
+    }
 }
 
 // Gives the entries of a backward scan, as many as there are places, and returns how many there are.

@@ -67,6 +67,39 @@ fn five_entries_take_three_pages(rt: HostRuntime) {
 }
 
 #[test]
+fn an_index_of_a_tree_has_the_entries_of_its_leaves(rt: HostRuntime) {
+    same(&rt, &five(&rt, rt.alloc()).len(), &5);
+    same(&rt, &two(&rt, rt.alloc()).len(), &2);
+    same(
+        &rt,
+        &given(&rt, five(&rt, rt.alloc()).copy(rt.alloc())).len(),
+        &5,
+    );
+}
+
+// The scan gives these runs, and then none.
+fn gives_runs(rt: &impl Abort, mut scan: Scan<'_>, first: &[(u64, u64)], second: &[(u64, u64)]) {
+    same(rt, &scan.next_run().unwrap_or(&[]), &first);
+    same(rt, &scan.next_run().unwrap_or(&[]), &second);
+    same(rt, &scan.next_run().unwrap_or(&[]), &[].as_slice());
+}
+
+#[test]
+fn a_scan_gives_the_run_of_each_leaf(rt: HostRuntime) {
+    let index = five(&rt, rt.alloc());
+    gives_runs(&rt, index.scan(2, 4), &[(2, 20), (3, 30)], &[(4, 40)]);
+    gives_runs(&rt, index.scan(2, 3), &[(2, 20), (3, 30)], &[]);
+    gives_runs(&rt, index.scan(6, 9), &[], &[]);
+    gives_runs(
+        &rt,
+        index.page(1, 4),
+        &[(1, 10), (2, 20), (3, 30)],
+        &[(4, 40)],
+    );
+    gives_runs(&rt, index.page(1, 2), &[(1, 10), (2, 20)], &[]);
+}
+
+#[test]
 fn an_empty_leaf_has_its_line(rt: HostRuntime) {
     let index = two(&rt, rt.alloc());
     is_text(&rt, rt.alloc(), &index, TWO);

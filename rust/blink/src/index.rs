@@ -385,7 +385,7 @@ impl Index {
         self.read.at_most(key)
     }
 
-    /// Returns the number of entries. It walks all leaves.
+    /// Returns the number of entries, which the index keeps.
     pub fn len(&self) -> usize {
         self.read.len()
     }

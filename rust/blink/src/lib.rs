@@ -46,7 +46,7 @@
 //! `retain(keeps)` | `retain(.., keeps)`, which returns how many entries it took
 //! `into_iter` | `iter`, or `for entry in &index`; there is no iterator that owns the index
 //! `keys`, `values` | `iter().map(..)`, of a session `range(..).map(..)`
-//! `len` | `len` walks the leaves; of a session `count(..)` does
+//! `len` | `len`; of a session `count(..)`, which walks the leaves
 //!
 //! A call that takes a range of keys takes each that `BTreeMap::range` takes, and panics where that one does: where the range's start is
 //! above its end, or one key is excluded from both sides.

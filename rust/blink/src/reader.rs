@@ -157,7 +157,7 @@ impl Reader {
         self.get(key).is_some()
     }
 
-    /// Returns the number of entries. It walks all leaves.
+    /// Returns the number of entries, which the index keeps.
     pub fn len(&self) -> usize {
         self.read.len()
     }

@@ -42,6 +42,28 @@ fn edits_answer(rt: HostRuntime) {
     edits(&rt, five(&rt, rt.alloc()));
 }
 
+// How many entries the index has after each of them.
+const LENGTHS: [usize; 18] = [5, 5, 6, 6, 6, 6, 6, 6, 6, 6, 5, 5, 5, 4, 4, 4, 4, 5];
+
+fn edits_count(rt: &impl Abort, mut index: Index) {
+    for (&(op, _), length) in EDITS.iter().zip(&LENGTHS) {
+        let _answer = given(rt, index.edit(op));
+        same_for(rt, &index.len(), length, &op);
+    }
+}
+
+#[test]
+fn edits_keep_the_number_of_entries(rt: HostRuntime) {
+    edits_count(&rt, five(&rt, rt.alloc()));
+}
+
+#[test]
+fn splits_keep_the_number_of_entries(rt: HostRuntime) {
+    same(&rt, &inserted_to(&rt, rt.alloc(), 4, 60).len(), &60);
+    same(&rt, &inserted_to(&rt, rt.alloc(), 4, 60).is_empty(), &false);
+    same(&rt, &inserted_to(&rt, rt.alloc(), 4, 0).is_empty(), &true);
+}
+
 // An index of this fan, into which the keys from 1 to `last` are inserted in place, each with the key itself.
 fn inserted_to(rt: &impl Abort, alloc: Global, fan: u8, last: u64) -> Index {
     let mut index = given(rt, Index::new(alloc, fan));

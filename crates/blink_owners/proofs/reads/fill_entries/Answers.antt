@@ -1,18 +1,26 @@
-use Rattle.std.proofs.Common.{◌∙◌, ◌++◌, ◌∷◌, [], List, append_assoc, length-append, ap, sym, arith}
+use Rattle.std.proofs.Common.{◌≡◌, ◌+◌, ◌<◌, ◌++◌, [], List, length, append_assoc, append-nil, length-append, ap, sym, ◌∙◌, arith}
 use Rattle.blink_batch.specs.declared.Entry.{Entry}
-use Rattle.blink_owners.proofs.Overlays.{overlaid-more}
+use Rattle.blink_owners.proofs.RunsShown.{length-entries_from}
+use Rattle.blink_rest.specs.{entries_from}
+use Rattle.blink_owners.specs.Filled.{overlaid}
 use Rattle.blink_owners.proofs.reads.fill_entries.Goals as goal
 
--- one entry more
-pub loop-entry-preserved : goal.loop-entry-preserved
-loop-entry-preserved c =
-    let so_far = c.loop-entry.invariant in
+-- a run more
+pub runs-preserved : goal.runs-preserved
+runs-preserved c =
+    let so_far = c.runs.invariant in
+    let run = c.in-Some.part.now in
+    let long = length-entries_from run in
     record {
-      can_next = tt;
-      is_finite = tt;
-      shown = so_far.shown ++ c.in-Some.entry ∷ [];
-      in_order = so_far.in_order ∙ ap (λ (rest : List Entry). so_far.shown ++ rest) c.in-Some.ensures.steps ∙ sym (append_assoc so_far.shown (c.in-Some.entry ∷ []) c.next.new.self);
-      overlaid_so_far = overlaid-more so_far.shown c.in-Some.entry c.args.entries.now c.loop-entry.entries c.set_inside.new.entries c.loop-entry.there c.of.result
-          so_far.overlaid_so_far so_far.counted c.of.ensures c.set_inside.ensures.inside c.set_inside.ensures.beyond;
-      counted = omega (arith, length-append so_far.shown (c.in-Some.entry ∷ []), so_far.counted);
+      shown = so_far.shown ++ entries_from run;
+      in_order = so_far.in_order ∙ ap (λ (rest : List Entry). so_far.shown ++ rest) c.in-Some.ensures.run ∙ sym (append_assoc so_far.shown (entries_from run) c.next_run.new.self);
+      overlaid_so_far = c.set_run.ensures so_far.shown c.args.entries.now so_far.overlaid_so_far so_far.counted;
+      counted = omega (arith, length-append so_far.shown (entries_from run), so_far.counted, long);
     }
+
+pub runs-smaller : goal.runs-smaller
+runs-smaller c =
+    let run = c.in-Some.part.now in
+    let parts = ap length c.in-Some.ensures.run ∙ length-append (entries_from run) c.next_run.new.self in
+    let long = length-entries_from run in
+    omega (arith, parts, long, c.in-Some.ensures.some)

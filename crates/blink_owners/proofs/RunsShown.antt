@@ -1,0 +1,55 @@
+-- A run of entries in the places of an array, as far as it has them.
+use Rattle.std.proofs.Common.{◌≡◌, ℕ, suc, ◌+◌, ◌-◌, ◌<◌, ◌≤◌, ◌++◌, ◌∷◌, [], List, length, take, drop, get_or, append_assoc, append-nil, length-append, ⊎_elim, ap, refl, sym, ◌∙◌, arith}
+use Rattle.std.specs.Prelude.{slice_set}
+use Rattle.std.proofs.lemmas.Bool.{cases_lt}
+use Rattle.std.proofs.lemmas.List.{length-take-le, map-append, take-append-drop, take_all, take_more}
+use Rattle.blink_batch.specs.declared.Entry.{Entry}
+use Rattle.blink_batch.specs.{entry}
+use Rattle.blink_rest.specs.{entries_from}
+use Rattle.blink_owners.specs.declared.raw.RawEntry.{RawEntry}
+use Rattle.blink_owners.specs.Filled.{overlaid}
+use Rattle.blink_owners.specs.Raw.{raw_entry}
+use Rattle.blink_owners.proofs.Overlays.{overlaid-inside, overlaid-full, length-overlaid}
+
+-- there are as many
+pub length-entries_from : (xs : List (ℕ × ℕ)) → length (entries_from xs) ≡ length xs
+length-entries_from [] = refl
+length-entries_from (x ∷ xs) = ap suc (length-entries_from xs)
+
+-- the entries of a part and of the rest
+entries_of_parts : (xs ys : List (ℕ × ℕ)) → entries_from (xs ++ ys) ≡ entries_from xs ++ entries_from ys
+entries_of_parts xs ys = map-append (λ (x : ℕ × ℕ). entry x.0 x.1) xs ys
+
+-- so many entries of a run stand behind those that were shown
+length-shown : (shown : List Entry) (run : List (ℕ × ℕ)) (place : ℕ) → place ≤ length run → length (shown ++ entries_from (take place run)) ≡ length shown + place
+length-shown shown run place inside =
+    let parts = length-append shown (entries_from (take place run)) in
+    let entries = length-entries_from (take place run) in
+    let taken = length-take-le place run inside in
+    omega (arith, parts, entries, taken)
+
+-- one entry more of a run
+pub run_more : (shown : List Entry) (run : List (ℕ × ℕ)) (place : ℕ) (places entries : List RawEntry) → place < length run → length shown + place < length places → entries ≡ overlaid (shown ++ entries_from (take place run)) places
+    → slice_set entries (length shown + place) (raw_entry (entry (get_or run place (0, 0)).0 (get_or run place (0, 0)).1)) ≡ overlaid (shown ++ entries_from (take (place + 1) run)) places
+run_more shown run place places entries inside room so_far =
+    let e : Entry = entry (get_or run place (0, 0)).0 (get_or run place (0, 0)).1 in
+    let front = entries_from (take place run) in
+    let long : length (shown ++ front) ≡ length shown + place = length-shown shown run place (omega (arith, inside)) in
+    let more : entries_from (take (place + 1) run) ≡ front ++ e ∷ [] = ap entries_from (take_more run place (0, 0) inside) ∙ entries_of_parts (take place run) (get_or run place (0, 0) ∷ []) in
+    (λ i. slice_set (so_far i) (sym long i) (raw_entry e))
+    ∙ (sym (overlaid-inside (shown ++ front) e places (omega (arith, long, room)))
+    ∙ ap (λ (es : List Entry). overlaid es places) (append_assoc shown front (e ∷ []) ∙ ap (λ (es : List Entry). shown ++ es) (sym more)))
+
+-- the whole run, as far as there are places
+pub run_whole : (shown : List Entry) (run : List (ℕ × ℕ)) (place : ℕ) (places entries : List RawEntry) → place ≤ length run → (place < length run → length places ≤ length shown + place) → entries ≡ overlaid (shown ++ entries_from (take place run)) places
+    → entries ≡ overlaid (shown ++ entries_from run) places
+run_whole shown run place places entries inside full so_far =
+    let front = entries_from (take place run) in
+    ⊎_elim
+    (λ (left : place < length run).
+    let long : length (shown ++ front) ≡ length shown + place = length-shown shown run place inside in
+    let no_room : length places ≤ length (shown ++ front) = (let f = full left in omega (arith, long, f)) in
+    let whole : (shown ++ front) ++ entries_from (drop place run) ≡ shown ++ entries_from run = append_assoc shown front (entries_from (drop place run)) ∙ ap (λ (es : List Entry). shown ++ es) (sym (entries_of_parts (take place run) (drop place run)) ∙ ap entries_from (take-append-drop place run)) in
+    so_far ∙ (sym (overlaid-full (shown ++ front) (entries_from (drop place run)) places no_room) ∙ ap (λ (es : List Entry). overlaid es places) whole))
+    (λ (all : length run ≤ place). so_far ∙ ap (λ (xs : List (ℕ × ℕ)). overlaid (shown ++ entries_from xs) places) (take_all place run all))
+    (cases_lt place (length run))
