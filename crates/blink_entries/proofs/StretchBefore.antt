@@ -1,8 +1,8 @@
 -- What a backward scan brings: the entries of a leaf up to a key, the last first, and before them those up to the leaf's floor.
-use Rattle.std.proofs.Common.{◌≡◌, ℕ, ◌+◌, ◌<◌, ◌≤◌, Option, Some, None, List, [], ◌∷◌, ◌++◌, drop, filter, refl, sym, ap, ◌∙◌, arith, append-nil, append_assoc}
+use Rattle.std.proofs.Common.{◌≡◌, ℕ, ◌+◌, ◌<◌, ◌≤◌, Option, Some, None, List, [], ◌∷◌, ◌++◌, ◌-◌, zero, suc, length, take, drop, filter, refl, sym, ap, ◌∙◌, arith, append-nil, append_assoc}
 use Rattle.std.specs.Prelude.{reverse}
 use Rattle.std.proofs.lemmas.Bool.Decides.{nat_tests}
-use Rattle.std.proofs.lemmas.List.{map-append, reverse-append}
+use Rattle.std.proofs.lemmas.List.{length-reverse, map-append, reverse-append}
 use Rattle.std.proofs.lemmas.List.Elements.{filter-append}
 use Rattle.blink_operation.specs.declared.Entry.{Entry}
 use Rattle.blink_operation.specs.{entry}
@@ -10,7 +10,8 @@ use Rattle.blink_page.specs.{place_of, least_above, IsRising}
 use Rattle.blink_page.proofs.Offered.{from_at_most_to}
 use Rattle.blink_rest.specs.{entries_from}
 use Rattle.blink_entries.specs.Back.{entries_within}
-use Rattle.blink_entries.specs.Scan.{entries_to, is_within}
+use Rattle.blink_entries.specs.Scan.{at_most, entries_to, fewer, first_of, is_within}
+use Rattle.blink_entries.proofs.packed.EntriesOfScan.{length-entries_from}
 use Rattle.blink_entries.proofs.StretchOfScan.{below_none, above_none, within_to, within_place, place_rising}
 
 -- entries up to a floor are within it as they are within any greater key
@@ -67,3 +68,27 @@ next_brought lo hi floor map entries part rest key pointer empty parts last =
     ap (λ (es : List (ℕ × ℕ)). reverse (entries_within lo hi map ++ entries_from es)) empty
     ∙ ap (λ (es : List Entry). reverse es) (append-nil (entries_within lo hi map) ∙ parts ∙ ap (λ (es : List (ℕ × ℕ)). entries_within lo floor map ++ entries_from es) last)
     ∙ last_brought (entries_within lo floor map) rest key pointer
+
+-- the first so many of some and of others
+take_behind : (n : ℕ) (xs ys : List Entry) → length xs ≤ n → take n (xs ++ ys) ≡ xs ++ take (n - length xs) ys
+take_behind n [] ys few = let same : n ≡ n - 0 = omega arith in ap (λ (k : ℕ). take k ys) same
+take_behind zero (x ∷ xs) ys few = absurd (omega (arith, few))
+take_behind (suc n) (x ∷ xs) ys few =
+    let same : n - length xs ≡ suc n - length (x ∷ xs) = omega arith in
+    ap (λ (es : List Entry). x ∷ es) (take_behind n xs ys (omega (arith, few)) ∙ ap (λ (k : ℕ). xs ++ take k ys) same)
+
+-- a run of the last entries, and what comes after it
+pub run_brought_back : (most : Option ℕ) (before : List Entry) (rest run : List (ℕ × ℕ)) → first_of (length run) most ≡ length run
+    → at_most most (reverse (before ++ entries_from (rest ++ run))) ≡ reverse (entries_from run) ++ at_most (fewer most (length run)) (reverse (before ++ entries_from rest))
+run_brought_back most before rest run within =
+    let parts : reverse (before ++ entries_from (rest ++ run)) ≡ reverse (entries_from run) ++ reverse (before ++ entries_from rest)
+    = ap reverse (ap (λ (es : List Entry). before ++ es) (map-append (λ (x : ℕ × ℕ). entry x.0 x.1) rest run) ∙ sym (append_assoc before (entries_from rest) (entries_from run)))
+    ∙ reverse-append (before ++ entries_from rest) (entries_from run) in
+    ap (at_most most) parts ∙ cut most within
+  where
+    cut : (most : Option ℕ) → first_of (length run) most ≡ length run → at_most most (reverse (entries_from run) ++ reverse (before ++ entries_from rest)) ≡ reverse (entries_from run) ++ at_most (fewer most (length run)) (reverse (before ++ entries_from rest))
+    cut None within = refl
+    cut (Some n) within =
+        let long : length (reverse (entries_from run)) ≡ length run = length-reverse (entries_from run) ∙ length-entries_from run in
+        take_behind n (reverse (entries_from run)) (reverse (before ++ entries_from rest)) (omega (arith, long, within))
+        ∙ ap (λ (k : ℕ). reverse (entries_from run) ++ take (n - k) (reverse (before ++ entries_from rest))) long

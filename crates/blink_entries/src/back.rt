@@ -8,7 +8,7 @@ ghost use Rattle.blink_entries.specs.Index.{map_of};
 ghost use Rattle.blink_entries.specs.Scan.{at_most, entries_to, is_within};
 
 use crate::down::leaf_for;
-use crate::scan::{not_below, one_fewer};
+use crate::scan::{fewer, first_of, not_below, one_fewer};
 use blink_operation::Entry;
 use blink_store::Store;
 use std::marker::Model;
@@ -56,6 +56,28 @@ impl<'a> ScanBack<'a> {
             entries: &[],
             most,
         }
+    }
+
+    /// Returns the next entries of the scan that stand in one leaf, in ascending order, or `None` at the scan's end. Their caller
+    /// copies them from the last to the first; `next` takes them one by one.
+    pub fn next_run(&mut self) -> Option<&'a [(u64, u64)]>
+        ensures run { IfSome result (λ run. self.old ≡ reverse (entries_from run.now) ++ self.new) }
+        ensures some { IfSome result (λ run. 0 < length run.now) }
+        ensures end { IfNone result (self.old ≡ []) }
+    {
+        if self.most == Some(0) {
+            return None;
+        }
+        if self.entries.is_empty() {
+            let (entries, floor) = last_part(self.store, self.lo, self.hi)?;
+            self.entries = entries;
+            self.hi = floor;
+        }
+        let count = first_of(self.entries.len(), self.most);
+        let (rest, run) = self.entries.split_at(self.entries.len() - count);
+        self.entries = rest;
+        self.most = fewer(self.most, count);
+        Some(run)
     }
 }
 

@@ -117,8 +117,8 @@ pub(crate) fn one_fewer(most: Option<u64>) -> Option<u64>
     }
 }
 
-// How many of so many entries may come.
-fn first_of(count: usize, most: Option<u64>) -> usize
+/// How many of so many entries may come.
+pub(crate) fn first_of(count: usize, most: Option<u64>) -> usize
     ensures { result ≡ first_of count most }
 {
     match most {
@@ -127,8 +127,8 @@ fn first_of(count: usize, most: Option<u64>) -> usize
     }
 }
 
-// How many entries may come after so many.
-fn fewer(most: Option<u64>, count: usize) -> Option<u64>
+/// How many entries may come after so many.
+pub(crate) fn fewer(most: Option<u64>, count: usize) -> Option<u64>
     ensures { result ≡ fewer most count }
 {
     match most {

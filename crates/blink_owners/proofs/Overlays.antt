@@ -1,12 +1,9 @@
--- One entry more in the caller's places, or none where there is no place; and what a filter and a prefix leave is no longer.
-use Rattle.std.proofs.Common.{◌≡◌, ℕ, suc, ◌<◌, ◌≤◌, Bool, List, [], ◌∷◌, ◌++◌, length, set, take, refl, ap, sym, ◌∙◌, arith}
-use Rattle.std.specs.Prelude.{filter, reverse, slice_set, if◌then◌else◌}
-use Rattle.std.proofs.Common.{inl, inr}
-use Rattle.std.proofs.lemmas.Bool.{cases_lt, le-leb}
-use Rattle.std.proofs.lemmas.List.{length-reverse, length-take, take_all}
+-- Entries in the caller's places, as far as there are places; and what a filter and a prefix leave is no longer.
+use Rattle.std.proofs.Common.{◌≡◌, ℕ, suc, ◌<◌, ◌≤◌, Bool, List, [], ◌∷◌, ◌++◌, length, set, take, refl, ap, arith}
+use Rattle.std.specs.Prelude.{filter, reverse}
+use Rattle.std.proofs.lemmas.List.{length-reverse, length-take}
 use Rattle.std.proofs.lemmas.List.Sums.{count_by-le-length, length-filter}
 use Rattle.blink_batch.specs.declared.Entry.{Entry}
-use Rattle.blink_index.specs.{is_from}
 use Rattle.blink_owners.specs.declared.raw.RawEntry.{RawEntry}
 use Rattle.blink_owners.specs.Filled.{overlaid}
 use Rattle.blink_owners.specs.Raw.{raw_entry}
@@ -17,13 +14,6 @@ overlaid-inside [] e [] inside = absurd (omega (arith, inside))
 overlaid-inside [] e (place ∷ places) inside = refl
 overlaid-inside (x ∷ shown) e [] inside = absurd (omega (arith, inside))
 overlaid-inside (x ∷ shown) e (place ∷ places) inside = ap (λ (rest : List RawEntry). raw_entry x ∷ rest) (overlaid-inside shown e places (omega (arith, inside)))
-
-pub overlaid-beyond : (shown : List Entry) (e : Entry) (places : List RawEntry) → length places ≤ length shown
-    → overlaid (shown ++ e ∷ []) places ≡ overlaid shown places
-overlaid-beyond [] e [] beyond = refl
-overlaid-beyond [] e (place ∷ places) beyond = absurd (omega (arith, beyond))
-overlaid-beyond (x ∷ shown) e [] beyond = refl
-overlaid-beyond (x ∷ shown) e (place ∷ places) beyond = ap (λ (rest : List RawEntry). raw_entry x ∷ rest) (overlaid-beyond shown e places (omega (arith, beyond)))
 
 -- where all places are taken, more entries change none
 pub overlaid-full : (shown more : List Entry) (places : List RawEntry) → length places ≤ length shown → overlaid (shown ++ more) places ≡ overlaid shown places
@@ -38,18 +28,6 @@ pub length-overlaid : (shown : List Entry) (places : List RawEntry) → length (
 length-overlaid [] places = refl
 length-overlaid (x ∷ shown) [] = refl
 length-overlaid (x ∷ shown) (place ∷ places) = ap suc (length-overlaid shown places)
-
--- a place that is set if the array has it
-pub overlaid-more : (shown : List Entry) (e : Entry) (places entries new : List RawEntry) (there : ℕ) (raw : RawEntry)
-    → entries ≡ overlaid shown places → there ≡ length shown → raw ≡ raw_entry e
-    → (there < length entries → new ≡ slice_set entries there raw) → (length entries ≤ there → new ≡ entries)
-    → new ≡ overlaid (shown ++ e ∷ []) places
-overlaid-more shown e places entries new there raw so_far counted is_raw inside beyond =
-    let same = ap (λ (xs : List RawEntry). length xs) so_far ∙ length-overlaid shown places in
-    elim (cases_lt (length shown) (length places)) [
-      | inl fits ↦ inside (omega (arith, fits, same, counted)) ∙ (λ i. slice_set (so_far i) (counted i) (is_raw i)) ∙ sym (overlaid-inside shown e places fits)
-      | inr full ↦ beyond (omega (arith, full, same, counted)) ∙ so_far ∙ sym (overlaid-beyond shown e places full)
-    ]
 
 -- ---- lists that are no longer
 

@@ -1,15 +1,15 @@
 -- A run of entries in the places of an array, as far as it has them.
-use Rattle.std.proofs.Common.{◌≡◌, ℕ, suc, ◌+◌, ◌-◌, ◌<◌, ◌≤◌, ◌++◌, ◌∷◌, [], List, length, take, drop, get_or, append_assoc, append-nil, length-append, ⊎_elim, ap, refl, sym, ◌∙◌, arith}
-use Rattle.std.specs.Prelude.{slice_set}
+use Rattle.std.proofs.Common.{◌≡◌, ℕ, suc, ◌+◌, ◌<◌, ◌≤◌, ◌++◌, ◌∷◌, [], List, length, take, drop, get_or, append_assoc, length-append, ⊎_elim, ap, refl, sym, ◌∙◌, arith}
+use Rattle.std.specs.Prelude.{reverse, slice_set}
 use Rattle.std.proofs.lemmas.Bool.{cases_lt}
-use Rattle.std.proofs.lemmas.List.{length-take-le, map-append, take-append-drop, take_all, take_more}
+use Rattle.std.proofs.lemmas.List.{length-take-le, map-append, reverse-append, take-append-drop, take_all, take_more}
 use Rattle.blink_batch.specs.declared.Entry.{Entry}
 use Rattle.blink_batch.specs.{entry}
 use Rattle.blink_rest.specs.{entries_from}
 use Rattle.blink_owners.specs.declared.raw.RawEntry.{RawEntry}
 use Rattle.blink_owners.specs.Filled.{overlaid}
 use Rattle.blink_owners.specs.Raw.{raw_entry}
-use Rattle.blink_owners.proofs.Overlays.{overlaid-inside, overlaid-full, length-overlaid}
+use Rattle.blink_owners.proofs.Overlays.{overlaid-inside, overlaid-full}
 
 -- there are as many
 pub length-entries_from : (xs : List (ℕ × ℕ)) → length (entries_from xs) ≡ length xs
@@ -53,3 +53,10 @@ run_whole shown run place places entries inside full so_far =
     so_far ∙ (sym (overlaid-full (shown ++ front) (entries_from (drop place run)) places no_room) ∙ ap (λ (es : List Entry). overlaid es places) whole))
     (λ (all : length run ≤ place). so_far ∙ ap (λ (xs : List (ℕ × ℕ)). overlaid (shown ++ entries_from xs) places) (take_all place run all))
     (cases_lt place (length run))
+
+-- the entries of a run, the last first
+pub entries_of_reverse : (xs : List (ℕ × ℕ)) → entries_from (reverse xs) ≡ reverse (entries_from xs)
+entries_of_reverse [] = refl
+entries_of_reverse (x ∷ xs) =
+    let e : Entry = entry x.0 x.1 in
+    ap entries_from (reverse-append (x ∷ []) xs) ∙ (entries_of_parts (reverse xs) (x ∷ []) ∙ (ap (λ (es : List Entry). es ++ e ∷ []) (entries_of_reverse xs) ∙ sym (reverse-append (e ∷ []) (entries_from xs))))

@@ -1,5 +1,5 @@
 //! Reading an index: what the exports of an index and those of a reader do alike.
-ghost use Rattle.std.specs.Prelude.{◌≡◌, ◌≢◌, ◌↔◌, ◌<◌, ◌≤◌, ◌^◌, ◌++◌, IsSome, List, IsTrue, filter, length, map, min, reverse, slice_set, take};
+ghost use Rattle.std.specs.Prelude.{◌≡◌, ◌≢◌, ◌↔◌, ◌<◌, ◌≤◌, ◌^◌, ◌++◌, IsSome, List, IsTrue, filter, length, map, min, reverse, take};
 ghost use Rattle.blink_batch.specs.declared.Entry.{Entry};
 ghost use Rattle.blink_batch.specs.{pointer_of};
 ghost use Rattle.blink_index.specs.{is_from, is_up_to, is_within, map_of, text_of_store};
@@ -167,26 +167,32 @@ fn set_run(entries: &mut [RawEntry], first: usize, run: &[(u64, u64)])
 }
 
 // Gives the entries of a backward scan, as many as there are places, and returns how many there are.
-fn fill_back(scan: ScanBack<'_>, entries: &mut [RawEntry]) -> usize
+fn fill_back(mut scan: ScanBack<'_>, entries: &mut [RawEntry]) -> usize
     requires { length scan < 2 ^ 63 }
     ensures there { result ≡ length scan.entry }
     ensures entries { entries.new ≡ overlaid scan.entry entries.old }
 {
     let mut there = 0usize;
-    for entry in scan {
-        set_inside(entries, there, RawEntry::of(entry));
-        there += 1;
+    'runs: while let Some(part) = scan.next_run() {
+        set_run_back(entries, there, part);
+        there += part.len();
     }
     there
 }
 
-// Sets a place of the array, if the array has it.
-fn set_inside(entries: &mut [RawEntry], place: usize, entry: RawEntry)
-    ensures inside { place < length entries.old → entries.new ≡ slice_set entries.old place entry }
-    ensures beyond { length entries.old ≤ place → entries.new ≡ entries.old }
+// Sets the places of the array from this one on to a run of entries, the last first, as far as the array has them.
+fn set_run_back(entries: &mut [RawEntry], first: usize, run: &[(u64, u64)])
+    ensures { (shown : List Entry) (places : List RawEntry) → entries.old ≡ overlaid shown places
+        → first ≡ length shown
+        → entries.new ≡ overlaid (shown ++ reverse (entries_from run.now)) places }
 {
-    if place < entries.len() {
-        entries[place] = entry;
+    if first >= entries.len() {
+        return;
+    }
+    let count = run.len().min(entries.len() - first);
+    for place in 0..count {
+        let (key, pointer) = run[run.len() - 1 - place];
+        entries[first + place] = RawEntry { key, pointer };
     }
 }
 

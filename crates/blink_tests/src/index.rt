@@ -8,7 +8,7 @@ use crate::fixtures::stores::{Sight, is_seen, page_at};
 use crate::fixtures::worlds::{after, full_leaf, two_leaves};
 use crate::fixtures::{are_entries, given, is_told, same, same_for};
 use blink_batch::{Entry, Op};
-use blink_index::{Index, IndexError, OrDash, Scan, push_entries};
+use blink_index::{Index, IndexError, OrDash, Scan, ScanBack, push_entries};
 use blink_rest::Rest;
 use blink_store::Store;
 use std::alloc::Global;
@@ -97,6 +97,28 @@ fn a_scan_gives_the_run_of_each_leaf(rt: HostRuntime) {
         &[(4, 40)],
     );
     gives_runs(&rt, index.page(1, 2), &[(1, 10), (2, 20)], &[]);
+}
+
+// The backward scan gives these runs, and then none.
+fn gives_runs_back(
+    rt: &impl Abort,
+    mut scan: ScanBack<'_>,
+    first: &[(u64, u64)],
+    second: &[(u64, u64)],
+) {
+    same(rt, &scan.next_run().unwrap_or(&[]), &first);
+    same(rt, &scan.next_run().unwrap_or(&[]), &second);
+    same(rt, &scan.next_run().unwrap_or(&[]), &[].as_slice());
+}
+
+#[test]
+fn a_backward_scan_gives_the_run_of_each_leaf(rt: HostRuntime) {
+    let index = five(&rt, rt.alloc());
+    gives_runs_back(&rt, index.scan_back(2, 4), &[(4, 40)], &[(2, 20), (3, 30)]);
+    gives_runs_back(&rt, index.scan_back(2, 3), &[(2, 20), (3, 30)], &[]);
+    gives_runs_back(&rt, index.scan_back(6, 9), &[], &[]);
+    gives_runs_back(&rt, index.page_back(4, 3), &[(4, 40)], &[(2, 20), (3, 30)]);
+    gives_runs_back(&rt, index.page_back(3, 2), &[(2, 20), (3, 30)], &[]);
 }
 
 #[test]

@@ -1,8 +1,7 @@
-use Rattle.std.proofs.Common.{◌≡◌, ◌+◌, ◌<◌, ◌++◌, [], List, length, append_assoc, append-nil, length-append, ap, sym, ◌∙◌, arith}
+use Rattle.std.proofs.Common.{◌++◌, List, length, append_assoc, length-append, ap, sym, ◌∙◌, arith}
 use Rattle.blink_batch.specs.declared.Entry.{Entry}
 use Rattle.blink_owners.proofs.RunsShown.{length-entries_from}
 use Rattle.blink_rest.specs.{entries_from}
-use Rattle.blink_owners.specs.Filled.{overlaid}
 use Rattle.blink_owners.proofs.reads.fill_entries.Goals as goal
 
 -- a run more
