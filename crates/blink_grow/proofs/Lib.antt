@@ -12,3 +12,4 @@ pub mod NextMap
 pub mod Tries
 pub mod SeatsCompare
 pub mod Closes
+pub mod Tells

@@ -19,3 +19,4 @@ pub mod Sessions
 pub mod Opening
 pub mod Renewing
 pub mod Closing
+pub mod Telling

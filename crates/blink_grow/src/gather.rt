@@ -55,7 +55,7 @@ impl GrowingMap {
 }
 
 // Tells the session what another one of its map has seen, and returns that one.
-fn hear(lead: &mut Current, mut held: Current) -> Current
+pub(crate) fn hear(lead: &mut Current, mut held: Current) -> Current
     requires its_own { IsSessionOf (arc_value lead.old.map) lead.old.session }
     requires one_map { IsSessionOf (arc_value lead.old.map) held.session }
     ensures heard { IsPrefix (seen_by result.session) (seen_by lead.new.session) }

@@ -18,6 +18,7 @@ mod room;
 mod scan;
 mod slots;
 mod snapshot;
+mod tell;
 
 pub use blink_live::Scanned;
 pub use error::GrowError;

@@ -1,4 +1,4 @@
-use Rattle.blink_grow.proofs.Tries.{still_of, tried_again, untried}
+use Rattle.blink_grow.proofs.Tries.{answered_then, still_of, tried_again, untried}
 use Rattle.blink_grow.proofs.growing.GrowingMap.change.Goals as goal
 
 pub try_change-requires-clause-its_own : goal.try_change-requires-clause-its_own
@@ -9,3 +9,6 @@ loop-init g c = record { same = untried c.args.session.now }
 
 pub loop-preserved : goal.loop-preserved
 loop-preserved g c = record { same = tried_again c.args.session.now c.loop.session c.try_change.new.session c.loop.invariant.same c.in-Err.ensures.unchanged }
+
+pub returns-in-Ok-clause-answered : goal.returns-in-Ok-clause-answered
+returns-in-Ok-clause-answered g c = answered_then c.args.self.now c.args.op c.args.session.now c.loop.session c.try_change.new.session c.in-Ok.answer c.loop.invariant.same c.in-Ok.ensures.answered

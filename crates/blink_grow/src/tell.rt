@@ -1,0 +1,132 @@
+//! Telling another session what one has seen.
+ghost use Rattle.std.specs.Prelude.{◌≡◌, ◌<◌};
+ghost use mathlib.Core.List.{IsPrefix};
+ghost use Rattle.std.specs.Arc.{arc_value};
+ghost use Rattle.blink_grow.specs.declared.slots.Known.{Known};
+ghost use Rattle.blink_map.specs.{IsSessionOf as IsSessionIn};
+ghost use Rattle.blink_grow.specs.Own.{IsIdle};
+ghost use Rattle.blink_grow.specs.Renewing.{MaySeeMore};
+ghost use Rattle.blink_grow.specs.Sessions.{IsSameBesideSeen, IsSessionOf, seen_by};
+ghost use Rattle.blink_grow.specs.Telling.{HasBoth, HasTold, HasToldBetween, HasToldSeat, IsIdleWith, IsTold};
+
+use crate::gather::hear;
+use crate::growing::{GrowingMap, Session};
+use crate::slots::{Compare, Current, PartWithFirst, PutTogether, SlotView};
+use atomic_table::Seat;
+use std::mem;
+use std::sync::Wait;
+
+impl GrowingMap {
+    /// Tells session `to` what session `from` has seen: after the call `to` has seen all that `from` had seen, whatever maps the changes
+    /// were made in. The call takes no memory, and waits while the map is renewed.
+    pub fn tell<R: Wait>(&self, rt: &R, from: &mut Session, to: &mut Session)
+        requires from_its_own { IsSessionOf self.now from.old }
+        requires to_its_own { IsSessionOf self.now to.old }
+        ensures told { IsPrefix (seen_by from.old) (seen_by to.new) }
+        ensures to { IsSameBesideSeen to.old to.new }
+        ensures from { IsSameBesideSeen from.old from.new }
+    {
+        let Session { seat, slot } = from;
+        let Session {
+            seat: other,
+            slot: other_slot,
+        } = to;
+        let theirs = mem::replace(other, self.enter());
+        *other = self.tell_seat(rt, seat, *slot, theirs, *other_slot);
+    }
+
+    // A session's seat takes another session too, tells it what its own has seen, and gives it a seat of its own again.
+    fn tell_seat<R: Wait>(
+        &self,
+        rt: &R,
+        seat: &mut Seat<Option<Current>, SlotView>,
+        from: usize,
+        other: Seat<Option<Current>, SlotView>,
+        to: usize,
+    ) -> Seat<Option<Current>, SlotView>
+        requires its_own { seat.old.table_id ≡ self.now.table.shared.table_id }
+        requires other_its_own { other.table_id ≡ self.now.table.shared.table_id }
+        requires from { from < self.now.table.shared.table_id.slots }
+        requires to { to < self.now.table.shared.table_id.slots }
+        requires some_slot { 0 < seat.old.me.0.slots }
+        requires idle { IsIdle from seat.old.me }
+        requires other_idle { IsIdle to other.me }
+        ensures same { seat.new.table_id ≡ self.now.table.shared.table_id }
+        ensures told_same { result.table_id ≡ self.now.table.shared.table_id }
+        ensures told { HasToldSeat from to seat.old.me other.me seat.new.me result.me }
+    {
+        self.table.shared.join_seat::<PutTogether>(seat, other);
+        self.table.shared.load::<Compare>(seat, 0);
+        self.tell_other(rt, seat, from, to);
+        self.table.shared.split_seat::<PartWithFirst>(seat)
+    }
+
+    // The session of the one slot tells that of the other, by a seat that has both.
+    fn tell_other<R: Wait>(
+        &self,
+        rt: &R,
+        seat: &mut Seat<Option<Current>, SlotView>,
+        from: usize,
+        to: usize,
+    )
+        requires its_own { seat.old.table_id ≡ self.now.table.shared.table_id }
+        requires from { from < seat.old.table_id.slots }
+        requires to { to < seat.old.table_id.slots }
+        requires some_slot { 0 < seat.old.me.0.slots }
+        requires both { (own : Known) × (theirs : Known) × HasBoth from to own theirs seat.old.me }
+        ensures same { seat.new.table_id ≡ seat.old.table_id }
+        ensures told { (own theirs : Known) → HasBoth from to own theirs seat.old.me
+            → HasTold from to own theirs seat.old.me seat.new.me }
+    {
+        if from < to {
+            self.tell_between(rt, seat, from, to, true);
+        } else {
+            self.tell_between(rt, seat, to, from, false);
+        }
+    }
+
+    // Takes the sessions of two slots, the lower one first, as a renewal does, so that neither waits for what the other has. Then the one
+    // tells the other.
+    fn tell_between<R: Wait>(
+        &self,
+        rt: &R,
+        seat: &mut Seat<Option<Current>, SlotView>,
+        lower: usize,
+        upper: usize,
+        upwards: bool,
+    )
+        requires its_own { seat.old.table_id ≡ self.now.table.shared.table_id }
+        requires lower { lower < seat.old.table_id.slots }
+        requires upper { upper < seat.old.table_id.slots }
+        requires some_slot { 0 < seat.old.me.0.slots }
+        requires idle { (low : Known) × (high : Known)
+            × IsIdleWith lower upper low high seat.old.me }
+        ensures same { seat.new.table_id ≡ seat.old.table_id }
+        ensures told { (low high : Known) → IsIdleWith lower upper low high seat.old.me
+            → HasToldBetween lower upper upwards low high seat.old.me seat.new.me }
+    {
+        let low = self.take(rt, seat, lower);
+        let high = self.take_at_once(rt, seat, upper);
+        let (low, high) = tell_one(low, high, upwards);
+        self.give(seat, upper, high);
+        self.give(seat, lower, low);
+    }
+}
+
+// The lower session tells the upper one, or the other way round.
+fn tell_one(mut low: Current, mut high: Current, upwards: bool) -> (Current, Current)
+    requires low { IsSessionIn (arc_value low.map) low.session }
+    requires high { IsSessionIn (arc_value low.map) high.session }
+    requires same_map { arc_value high.map ≡ arc_value low.map }
+    ensures low { MaySeeMore low result.0 }
+    ensures high { MaySeeMore high result.1 }
+    ensures told { IsTold upwards low high result.0 result.1 }
+{
+    if upwards {
+        let low = hear(&mut high, low);
+        (low, high)
+    } else {
+        let high = hear(&mut low, high);
+        (low, high)
+    }
+}
