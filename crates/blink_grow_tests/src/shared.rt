@@ -26,7 +26,7 @@ impl Single {
             Ok(opened) => opened,
             Err(refusal) => return Err(refusal),
         };
-        let session = sessions.pop().expect(rt, "no session");
+        let session = last(rt, &map, &mut sessions);
         Ok(Single { map, session })
     }
 
@@ -62,9 +62,22 @@ impl Single {
     pub(crate) fn close(self, rt: &impl Abort, alloc: Global) -> Index {
         let Single { map, session } = self;
         let mut sessions = Vec::new(alloc);
-        given(rt, sessions.push(session).map_err(|_| GrowError::OutOfMemory));
+        given(
+            rt,
+            sessions.push(session).map_err(|_| GrowError::OutOfMemory),
+        );
         close(rt, alloc, map, sessions)
     }
+}
+
+// The last of these sessions.
+pub(crate) fn last(rt: &impl Abort, map: &GrowingMap, sessions: &mut Vec<Session>) -> Session
+    requires its_own { All (IsSessionOf map.now) sessions.old.items }
+    ensures its_own { IsSessionOf map.now result }
+    ensures others { All (IsSessionOf map.now) sessions.new.items }
+{
+    let _map = map;
+    sessions.pop().expect(rt, "no session")
 }
 
 // Closes the map; after a refusal the call is made again.

@@ -1,8 +1,8 @@
 //! Four threads, each with a session of one map, which is renewed meanwhile.
 ghost use Rattle.blink_grow.specs.{IsSessionOf};
 
-use crate::same::{given, same};
-use crate::shared::{apply, close};
+use crate::same::same;
+use crate::shared::{apply, close, last};
 use blink_batch::{Answer, Op};
 use blink_grow::{GrowingMap, Session};
 use std::alloc::Global;
@@ -34,11 +34,11 @@ struct Four {
 
 impl Four {
     fn new(rt: &impl Abort, alloc: Global) -> Four {
-        let (map, mut sessions) = given(rt, GrowingMap::new(alloc, 4));
-        let fourth = sessions.pop().expect(rt, "no fourth session");
-        let third = sessions.pop().expect(rt, "no third session");
-        let second = sessions.pop().expect(rt, "no second session");
-        let first = sessions.pop().expect(rt, "no session");
+        let (map, mut sessions) = GrowingMap::new(alloc, 4).expect(rt, "no map");
+        let fourth = last(rt, &map, &mut sessions);
+        let third = last(rt, &map, &mut sessions);
+        let second = last(rt, &map, &mut sessions);
+        let first = last(rt, &map, &mut sessions);
         Four {
             map,
             first,
@@ -156,9 +156,9 @@ fn run<R: Threads + Wait + Sync>(
     )
 }
 
-// Of each four keys that a thread inserted one is left, with its turn.
+// Of each four keys that a thread inserted the first is left, since 500 turns later is a turn that four divides too.
 fn is_left(turn: u64) -> bool {
-    (turn + LATER) % 4 == 0
+    turn % 4 == 0
 }
 
 #[test]
@@ -173,7 +173,10 @@ fn four_threads_grow_a_map(rt: HostRuntime) {
     } = Four::new(&rt, alloc);
     let wrong = AtomicU64::new(0);
     let sessions = (first, second, third, fourth);
-    assert!(&rt; run(&rt, alloc, &map, sessions, &wrong), "a thread couldn't be started");
+    assert!(&rt;
+        run(&rt, alloc, &map, sessions, &wrong),
+        "a thread couldn't be started"
+    );
     same(&rt, &wrong.load(Ordering::SeqCst), &0);
     let index = close(&rt, alloc, map, Vec::new(alloc));
     for turn in 0..KEYS {
