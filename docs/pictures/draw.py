@@ -121,10 +121,11 @@ OPERATIONS = [("insert 81", 0, 1, 37, 7), ("insert 43", 1, 10, 16, 15), ("insert
 # the bands of the crates, each with its lowest and its highest row, and where each crate stands: its column, and its row from below
 BANDS = (("programs and library", 12.9, 16.1), ("runs", 9.1, 12.6), ("threads", 6.3, 8.95), ("memory", 4.35, 5.9), ("tree", -0.5, 3.95))
 CRATES = {
-    "index_main": (1.35, 15.4), "show_main": (2.9, 15.4), "blink_c": (5.9, 15.4), "blink_owners": (5.9, 14.5), "show_command": (2.3, 14.5),
+    "index_main": (1.35, 15.4), "show_main": (2.9, 15.4), "blink_c": (5.97, 15.4), "blink_owners": (5.97, 14.5), "show_command": (2.3, 14.5),
     "blink_command": (1.2, 13.6), "blink_show": (3.9, 13.6), "blink_run": (2.6, 12.0), "blink_locked": (1.9, 10.8),
     "blink_replay": (4.6, 10.8), "blink_settings": (1.1, 9.6), "blink_steps": (3.3, 9.6), "blink_client": (3.95, 8.3),
-    "blink_map": (5.9, 7.7), "blink_map_client": (6.5, 8.5), "blink_grow": (5.3, 8.5), "blink_live": (5.5, 6.8), "blink_index": (4.9, 4.9), "blink_rows": (6.1, 4.9),
+    "blink_map": (5.97, 7.4), "blink_map_client": (6.5, 8.05), "blink_grow": (5.44, 7.98), "blink_grow_client": (5.44, 8.66),
+    "blink_live": (5.37, 6.7), "blink_index": (4.9, 4.9), "blink_rows": (6.1, 4.9),
     "blink_machine": (2.9, 3.3), "blink_entries": (4.5, 3.3), "blink_batch": (1.2, 3.3), "blink_rest": (3.4, 2.2), "blink_store": (3.95, 1.1),
     "blink_operation": (2.2, 0.0), "blink_page": (5.2, 0.0),
 }
@@ -748,7 +749,7 @@ def row_life():
 
 
 # lines that go round what stands between: the column where they go down
-BENT = {("blink_run", "blink_live"): 5.35}
+BENT = {("blink_run", "blink_live"): 4.95}
 
 
 def crates():

@@ -1,7 +1,7 @@
 mod SessionsKnow
-mod EntryIsShown
-mod OneIsFirst
-mod TwoInsert
+pub mod EntryIsShown
+pub mod OneIsFirst
+pub mod TwoInsert
 mod NobodyElse
 mod RaisesAdd
 mod SessionsRaise

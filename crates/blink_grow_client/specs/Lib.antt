@@ -1,0 +1,6 @@
+-- What a caller of `blink_grow_client` reads; then the files themselves.
+
+-- what was seen
+pub use Rattle.blink_grow_client.specs.Seen.{WasSeen}
+-- ---- the files
+pub mod Seen
