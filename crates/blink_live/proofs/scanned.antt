@@ -7,3 +7,7 @@ pub mod KeysAreCopied
 pub mod KeysAreMet
 pub mod LeavesAreCopied
 pub mod ReportsGoOn
+pub mod EntriesBehind
+pub mod LeavesAreCopiedBack
+pub mod ListsAreTurned
+pub mod ReportsGoBack

@@ -5,7 +5,7 @@ use Rattle.atomic_table.specs.Table.{Step}
 use Rattle.blink_batch.specs.declared.Op.{Op}
 use Rattle.blink_batch.specs.declared.Answer.{Answer}
 use Rattle.blink_batch.specs.{answer_at, key_of, pointer_of}
-use Rattle.blink_page.specs.{IsPageNumber, PlainPage, IsLawfulPage, value_at}
+use Rattle.blink_page.specs.{IsPageNumber, PlainPage, IsLawfulPage, least_above}
 use Rattle.blink_page.specs.declared.limits.TheConstants.{LEVELS, MAX_FAN}
 use Rattle.blink_rows.specs.{page_words, prime_words, row_in}
 use Rattle.blink_rows.specs.declared.limits.TheConstants.{ROW_WORDS}
@@ -22,6 +22,7 @@ use Rattle.blink_live.specs.declared.view.Stock.{Stock}
 use Rattle.blink_live.specs.declared.view.View.{View}
 use Rattle.blink_live.specs.Changes.{after, changes_made, states_of, Learns}
 use Rattle.blink_live.specs.Accounts.{KnowsAuthors}
+use Rattle.blink_live.specs.Looks.{TellsAll}
 use Rattle.blink_live.specs.Views.{SeatState, IsAnnounced, KnowsItsOwn, ShowsNoMore, for_call, going_on, has_pages, has_rows, is_busy, knows_word, stage_word, changed_by, publishes_from, reading, forgets_told, learns_of_others, span, takes_out, SawItsOwn}
 use Rattle.blink_live.specs.Words.{AreNumbersIn, AreRowsIn, IsRowNumber, row_start, IsVersion}
 
@@ -67,9 +68,9 @@ begins op st me word then = (machine : PlainMachine) × Begins op me (row_in wor
 abbrev pub AnswersAfter : (ℕ → Option ℕ) → PlainMachine → PlainMachine → Type 0
 AnswersAfter kept m machine = (machine.answer ≡ m.answer) ⊎ ((m.answer ≡ None) × (machine.answer ≡ Some (answer_at m.op (kept (key_of m.op)))))
 
--- of each key from the operation's to the leaf's high key, the leaf has the state after all changes so far
+-- the operation's key is above the leaf's floor, and of each of its keys the leaf has the state after all changes so far
 abbrev pub TellsStates : (ℕ → Option ℕ) → PlainMachine → PlainPage → Type 0
-TellsStates kept m leaf = (key : ℕ) → target m ≤ key → key ≤ leaf.high → value_at key leaf.entries ≡ kept key
+TellsStates kept m leaf = (least_above leaf.floor ≤ target m) × TellsAll kept leaf
 
 -- the operation is `machine` now. The row has the page as a base with records behind it
 pub record LoadsPage (m : PlainMachine) (number : ℕ) (me : SeatState) (word : ℕ) (machine : PlainMachine) (then : SeatState) : Type 0 where

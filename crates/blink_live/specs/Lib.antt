@@ -14,6 +14,8 @@ pub use Rattle.blink_live.specs.Handing.{AllAreYours, HasGiven, HasReceived, IsF
 pub use Rattle.blink_live.specs.Finding.{HasForeign}
 -- what a scan reports of a range of keys while others change them
 pub use Rattle.blink_live.specs.Scanning.{IsReport, ReportLaw, ReportTells, SaysOfKeys, StoppedFull, stop_of}
+-- the same of a backward scan
+pub use Rattle.blink_live.specs.ScanningBack.{IsDescending, IsReportBack, ReportBackLaw, start_of}
 -- what a snapshot says of a range of keys: all of it in one tree state
 pub use Rattle.blink_live.specs.Snapshots.{IsSnapshot}
 -- an operation under way: the pass before it, which one it is, and what it waits for
@@ -60,6 +62,7 @@ pub mod Handing
 pub mod Finding
 pub mod Scanning
 pub mod Merging
+pub mod ScanningBack
 pub mod Snapshots
 pub mod Along
 pub mod KeyTest

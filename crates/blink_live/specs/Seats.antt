@@ -6,7 +6,7 @@ use Rattle.atomic_table.specs.Seated.{TableId}
 use Rattle.blink_batch.specs.declared.Op.{Op}
 use Rattle.blink_batch.specs.declared.Op.TheVariants.{Find}
 use Rattle.blink_batch.specs.{FitsWords, answer_at, key_of}
-use Rattle.blink_page.specs.{value_at, PlainPage, IsLawfulPage, Leads}
+use Rattle.blink_page.specs.{least_above, value_at, PlainPage, IsLawfulPage, Leads}
 use Rattle.blink_page.specs.declared.limits.TheConstants.{LEVELS, MAX_FAN}
 use Rattle.blink_page.specs.declared.search.Way.{Way}
 use Rattle.blink_page.specs.declared.search.Way.TheVariants.{Here}
@@ -62,17 +62,25 @@ pub record ReadsPrime (me : SeatState) (row : ℕ) (prime : List ℕ) : Type 0 w
   pub reads : me.0.reads ≡ Some (row, prime_words prime)
   pub few_levels : length prime < LEVELS
 
+-- the leaf has this key, and from its floor up to it these states
+pub record HasLesser (known : ℕ → Option ℕ) (key : ℕ) (leaf : PlainPage) : Type 0 where
+  pub floor_below : least_above leaf.floor ≤ key
+  pub lesser : (other : ℕ) → least_above leaf.floor ≤ other → other ≤ key → value_at other leaf.entries ≡ known other
+
 -- the leaf reaches up to this key, and from there to its high key has these states
 pub record HasStates (known : ℕ → Option ℕ) (key : ℕ) (leaf : PlainPage) : Type 0 where
   pub reaches : key ≤ leaf.high
   pub states : (other : ℕ) → key ≤ other → other ≤ leaf.high → value_at other leaf.entries ≡ known other
 
--- the seat reads a leaf, which has the state that the seat knows of each key from this one to its high key
+-- the seat reads the key's leaf, which has the state that the seat knows of each key from this one to its high key, and of each from its
+-- floor up to this one
 pub record ReadsLeaf (key word : ℕ) (me : SeatState) : Type 0 where
   pub leaf : PlainPage
   pub reads : ReadsVersion me word leaf
+  pub floor_below : least_above leaf.floor ≤ key
   pub reaches : key ≤ leaf.high
   pub states : (other : ℕ) → key ≤ other → other ≤ leaf.high → value_at other leaf.entries ≡ known_of me.0 other
+  pub lesser : (other : ℕ) → least_above leaf.floor ≤ other → other ≤ key → value_at other leaf.entries ≡ known_of me.0 other
 
 -- `way` says where the key leads from the page; if the page is its leaf, `kept` is the pointer stored for the key
 pub record TellsWayFor (key : ℕ) (page : PlainPage) (way : Way) (kept : Option ℕ) : Type 0 where

@@ -20,6 +20,7 @@ mod retire;
 mod room;
 mod rule;
 mod scan;
+mod scan_back;
 mod shelf;
 mod snapshot;
 mod splice;
@@ -32,6 +33,7 @@ mod view;
 pub use error::{HandError, LiveError, PassError};
 pub use live::{Keeper, Live, Pass, Pending};
 pub use scan::{Scanned, reports_tell};
+pub use scan_back::backward_reports_tell;
 
 // What a map is made of, in the crate above: the seats of a table, and what their calls are made of.
 pub use close::tree_at_end;

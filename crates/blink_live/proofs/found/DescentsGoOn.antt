@@ -7,7 +7,7 @@ use Rattle.blink_batch.specs.{FitsWords, answer_at, key_of}
 use Rattle.blink_batch.specs.declared.Answer.{Answer}
 use Rattle.blink_batch.specs.declared.Op.{Op}
 use Rattle.blink_batch.specs.declared.Op.TheVariants.{Find}
-use Rattle.blink_page.specs.{Leads, PlainPage, value_at}
+use Rattle.blink_page.specs.{Leads, PlainPage, least_above, value_at}
 use Rattle.blink_page.specs.declared.search.Way.{Way}
 use Rattle.blink_page.specs.declared.search.Way.TheVariants.{Right, Down, Here}
 use Rattle.blink_machine.specs.declared.machine.Job.{Job}
@@ -177,13 +177,16 @@ module _ (op : Op) (number level word : ℕ) (first me new : SeatState) (way : W
     reads_leaf =
         let leads_here = subst (Leads reads.loads.page (key_of op)) here reads.tells.leads in
         let is_leaf : level ≡ 0 = sym its_level ∙ leads_here.1 in
-        let at_leaf : has.at.machine.state ≡ Going number 0 = has.at.state ∙ ap (Going number) is_leaf in record {
+        let at_leaf : has.at.machine.state ≡ Going number 0 = has.at.state ∙ ap (Going number) is_leaf in
+        let told = reads.loads.tells at_leaf in
+        let below = subst (λ (k : ℕ). least_above reads.loads.page.floor ≤ k) its_key told.0 in
+        let reaches = leads_here.0 in record {
           leaf = reads.loads.page;
           reads = version_loaded reads.loads;
-          reaches = leads_here.0;
-          states = λ other not_before not_behind.
-              reads.loads.tells at_leaf other (subst (λ (k : ℕ). k ≤ other) (sym its_key) not_before) not_behind
-              ∙ ap (λ (x : SeatState). known_of x.0 other) (sym reads.loads.is);
+          floor_below = below;
+          reaches = reaches;
+          states = λ other low high. told.1 other (omega (arith, below, low), high) ∙ ap (λ (x : SeatState). known_of x.0 other) (sym reads.loads.is);
+          lesser = λ other low high. told.1 other (low, omega (arith, high, reaches)) ∙ ap (λ (x : SeatState). known_of x.0 other) (sym reads.loads.is);
         }
 
     pub kept_as_known : kept ≡ known_of new.0 (key_of op)

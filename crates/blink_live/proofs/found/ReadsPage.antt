@@ -43,9 +43,7 @@ answers_after kept tree_state m then now is (other same has_entries) = inl same
 
 -- a leaf that it has come to has the states after the changes so far
 tells_states : (kept : ℕ → Option ℕ) (m : PlainMachine) (leaf : PlainPage) (now : List Entry) → ((key : ℕ) → pointer_of now key ≡ kept key) → TellsItsKeys m leaf now → TellsStates kept m leaf
-tells_states kept m leaf now is leaf_tells key not_before not_behind =
-    let below = leaf_tells.floor_below in
-    sym (leaf_tells.states key (omega (arith, below, not_before), not_behind)) ∙ is key
+tells_states kept m leaf now is leaf_tells = (leaf_tells.floor_below, λ key its. sym (leaf_tells.states key its) ∙ is key)
 
 -- a page of some tree is lawful under the greatest fan
 pub lawful_within : (fan : ℕ) (page : PlainPage) → fan ≤ MAX_FAN → IsLawfulPage fan page → IsLawfulPage MAX_FAN page

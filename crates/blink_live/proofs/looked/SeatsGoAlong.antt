@@ -55,15 +55,19 @@ reads_along word me new along = record {
   lawful = along.lawful;
 }
 
--- and if the key belongs there, the page tells of each key from there on
+-- and if the key belongs there, the page is the key's leaf
 pub leaf_along : (word key : ℕ) (me new : SeatState) (along : GoesAlong me word new) → IsKeyOf along.page key → ReadsLeaf key word new
 leaf_along word key me new along belongs = record {
   leaf = along.page;
   reads = reads_along word me new along;
+  floor_below = belongs.0;
   reaches = belongs.1;
   states = λ other low high.
       let least = belongs.0 in
       along.tells other (omega (arith, least, low), high) ∙ ap (λ (x : SeatState). known_of x.0 other) (sym along.is);
+  lesser = λ other low high.
+      let reaches = belongs.1 in
+      along.tells other (low, omega (arith, high, reaches)) ∙ ap (λ (x : SeatState). known_of x.0 other) (sym along.is);
 }
 
 -- the leaf to the right is noted

@@ -167,10 +167,14 @@ reads_noted number word key me new again has marked belongs = record {
     version = subst (λ (x : SeatState). IsVersion word again.base x.0.behind again.page) (sym again.is) again.version;
     lawful = again.lawful has;
   };
+  floor_below = belongs.0;
   reaches = belongs.1;
   states = λ other low high.
       let least = belongs.0 in
       again.tells me.0.seen marked has other (omega (arith, least, low), high) ∙ ap (λ (x : SeatState). known_of x.0 other) (sym again.is);
+  lesser = λ other low high.
+      let reaches = belongs.1 in
+      again.tells me.0.seen marked has other (low, omega (arith, high, reaches)) ∙ ap (λ (x : SeatState). known_of x.0 other) (sym again.is);
 }
 
 -- which keys belong to a page, by words of its row

@@ -18,18 +18,18 @@ between from stop [] = []
 between from stop ((k, v) ∷ rest) = if is_in from stop k then entry k v ∷ between from stop rest else between from stop rest
 
 -- the tests tell where a key is
-in_tells : (from stop key : ℕ) → is_in from stop key ≡ true → (from ≤ key) × (key < stop)
+pub in_tells : (from stop key : ℕ) → is_in from stop key ≡ true → (from ≤ key) × (key < stop)
 in_tells from stop key is = (grind (arith, nat_tests, is), grind (arith, nat_tests, is))
 
 -- ---- what they say of a key
 
-between-pointer : (from stop key : ℕ) (pairs : List (ℕ × ℕ)) → from ≤ key → key < stop → pointer_of (between from stop pairs) key ≡ value_at key pairs
+pub between-pointer : (from stop key : ℕ) (pairs : List (ℕ × ℕ)) → from ≤ key → key < stop → pointer_of (between from stop pairs) key ≡ value_at key pairs
 between-pointer from stop key [] low high = refl
 between-pointer from stop key ((k, v) ∷ rest) low high =
     let further : pointer_of (between from stop rest) key ≡ value_at key rest = between-pointer from stop key rest low high in
     grind (arith, nat_tests, further)
 
-between-within : (from stop : ℕ) (pairs : List (ℕ × ℕ)) → AllByRecursion (IsBetween from stop) (between from stop pairs)
+pub between-within : (from stop : ℕ) (pairs : List (ℕ × ℕ)) → AllByRecursion (IsBetween from stop) (between from stop pairs)
 between-within from stop [] = tt
 between-within from stop ((k, v) ∷ rest) = (elim (is_in from stop k) as (λ t. is_in from stop k ≡ t → AllByRecursion (IsBetween from stop) (if t then entry k v ∷ between from stop rest else between from stop rest)) [
   | true ↦ λ is. (in_tells from stop k is, between-within from stop rest)
@@ -48,7 +48,7 @@ above_all from stop least a b ((k, v) ∷ rest) rises less =
       | false ↦ further
     ]
 
-between-ascends : (from stop a b : ℕ) (pairs : List (ℕ × ℕ)) → IsRising a pairs b → IsAscending (between from stop pairs)
+pub between-ascends : (from stop a b : ℕ) (pairs : List (ℕ × ℕ)) → IsRising a pairs b → IsAscending (between from stop pairs)
 between-ascends from stop a b [] rises = tt
 between-ascends from stop a b ((k, v) ∷ rest) rises =
     let further = between-ascends from stop (k + 1) b rest rises.1 in

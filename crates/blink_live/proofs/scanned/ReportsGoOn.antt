@@ -17,7 +17,7 @@ use Rattle.blink_live.specs.Views.{SeatState}
 use Rattle.blink_live.proofs.found.FindsOfSeveral.{searched_more, searched_none}
 use Rattle.blink_live.proofs.told.PrefixesOfOneList.{prefix_of_prefix}
 
-same_list : (seen : List Change) → IsPrefix seen seen
+pub same_list : (seen : List Change) → IsPrefix seen seen
 same_list seen = ([], append-nil seen)
 
 -- ---- two reports, of which one begins where the other stops
@@ -64,13 +64,13 @@ module _ (lo mid stop : ℕ) (first second : List Entry) (left : AllByRecursion 
   both_ascend (e ∷ es) all ascends further = (above_both e.key es all.0.1 ascends.0, both_ascend es all.1 ascends.1 further)
 
 -- the fronts of both
-abbrev fronts_of : ℕ → (ℕ → List Change) → (ℕ → List Change) → ℕ → List Change
+abbrev pub fronts_of : ℕ → (ℕ → List Change) → (ℕ → List Change) → ℕ → List Change
 fronts_of mid before behind key = if nat_lt key mid then before key else behind key
 
-front_before : (mid key : ℕ) (before behind : ℕ → List Change) → key < mid → before key ≡ fronts_of mid before behind key
+pub front_before : (mid key : ℕ) (before behind : ℕ → List Change) → key < mid → before key ≡ fronts_of mid before behind key
 front_before mid key before behind less = let is : true ≡ nat_lt key mid = grind (arith, nat_tests) in ap (λ (t : Bool). if t then before key else behind key) is
 
-front_behind : (mid key : ℕ) (before behind : ℕ → List Change) → mid ≤ key → behind key ≡ fronts_of mid before behind key
+pub front_behind : (mid key : ℕ) (before behind : ℕ → List Change) → mid ≤ key → behind key ≡ fronts_of mid before behind key
 front_behind mid key before behind more = let is : false ≡ nat_lt key mid = grind (arith, nat_tests) in ap (λ (t : Bool). if t then before key else behind key) is
 
 module _ (mid : ℕ) (before behind : ℕ → List Change) (old between new : List Change) (first : AreFronts before old between) (second : AreFronts behind between new) where
