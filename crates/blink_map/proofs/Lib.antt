@@ -14,3 +14,4 @@ mod AllSettled
 mod MembersDealt
 pub mod PutsAreChanges
 mod HostRests
+mod EndsOfReports

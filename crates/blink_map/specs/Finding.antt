@@ -4,7 +4,7 @@ use mathlib.Core.List.{IsPrefix}
 use Rattle.blink_batch.specs.declared.Entry.{Entry}
 use Rattle.blink_live.specs.declared.live.Live.{Live}
 use Rattle.blink_live.specs.Handles.{opening_of as opening_of_table}
-use Rattle.blink_live.specs.{IsReport}
+use Rattle.blink_live.specs.{IsReport, IsReportBack}
 use Rattle.blink_map.specs.declared.member.Member.{Member}
 use Rattle.blink_map.specs.Sessions.{IsSameMember, made_by_member, seen_of_member}
 
@@ -21,3 +21,8 @@ pub record HasLooked (old new : Member) : Type 0 where
 abbrev pub HasReported : Live → Member → Member → ℕ → ℕ → List Entry → Type 0
 HasReported live old new lo stop entries =
     IsReport (opening_of_table live) (seen_of_member old) (seen_of_member new) lo stop entries
+
+-- these are a backward report of the keys from `lo` to `hi`
+abbrev pub HasReportedBack : Live → Member → Member → ℕ → ℕ → List Entry → Type 0
+HasReportedBack live old new lo hi entries =
+    IsReportBack (opening_of_table live) (seen_of_member old) (seen_of_member new) lo hi entries

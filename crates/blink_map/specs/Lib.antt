@@ -21,6 +21,8 @@ pub use Rattle.blink_map.specs.Pendings.{GoesOn, HasBegun, IsPendingOf, op_of, s
 pub use Rattle.blink_map.specs.Starting.{HasStopped}
 -- what a refused operation makes of its session, and an entry that is put
 pub use Rattle.blink_map.specs.Putting.{HasTried, IsPut, IsUnchangedBy, LacksKeyOf, WasAbsent, change_to}
+-- the first and the last entry of a range
+pub use Rattle.blink_map.specs.Ends.{IsFirstFrom, IsLastTo}
 -- what a session has of rows and page numbers
 pub use Rattle.blink_map.specs.Stocks.{stock_of}
 -- the code of each refusal
@@ -37,6 +39,7 @@ pub mod Closing
 pub mod Unclosed
 pub mod Rebuilding
 pub mod Drawing
+pub mod Ends
 pub mod Opening
 pub mod Putting
 pub mod Places
