@@ -34,6 +34,8 @@ mod same;
 #[cfg(test)]
 mod scanning;
 #[cfg(test)]
+mod scanning_back;
+#[cfg(test)]
 mod shared;
 #[cfg(test)]
 mod sights;

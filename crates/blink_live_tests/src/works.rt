@@ -4,6 +4,7 @@ ghost use Rattle.blink_live.specs.{IsPassOf};
 use crate::glancing::glance_downwards;
 use crate::same::same;
 use crate::scanning::change_or_scan;
+use crate::scanning_back::change_or_scan_back;
 use crate::steps::{Step, take, take_all};
 use crate::walks::{Walk, eighth, every, fourth, key_after};
 use crate::watching::watch_eighth;
@@ -25,6 +26,8 @@ pub(crate) enum Work {
     WatchEighth,
     // Each pass inserts its keys. Then the odd ones delete them again, and the even ones scan meanwhile.
     ChangeOrScan,
+    // The same with backward scans.
+    ChangeOrScanBack,
     // The first pass inserts the keys 0 to 255 upwards, and each other one glances at them downwards.
     InsertOrGlance,
     // This round of keys that are handed round, and of keys that are dealt anew.
@@ -60,6 +63,7 @@ pub(crate) fn do_part<R: Wait + Abort>(
         Work::ChangeEighth => change_eighth(rt, live, pass, thread),
         Work::WatchEighth => watch_eighth(rt, live, pass, thread),
         Work::ChangeOrScan => change_or_scan(rt, live, pass, thread),
+        Work::ChangeOrScanBack => change_or_scan_back(rt, live, pass, thread),
         Work::InsertOrGlance if thread == 0 => {
             change_each(rt, live, pass, &every(1, 0, 256), Change::InsertItself);
         }

@@ -3,7 +3,7 @@ ghost use Rattle.blink_map.specs.{IsSessionOf};
 
 use crate::shared::Two;
 use crate::threads::{Counts, change_drawn};
-use crate::{scanning, snapshots, splitting};
+use crate::{scanning, scanning_back, snapshots, splitting};
 use blink_map::{Map, Session};
 use std::alloc::Global;
 use std::process::Abort;
@@ -17,6 +17,7 @@ pub(crate) enum Work {
     // It inserts the odd keys, and deletes them again, while the other scans.
     ChangeOdd,
     ScanEven,
+    ScanEvenBack,
     // It inserts keys in ascending order, while the other takes snapshots.
     InsertAscending,
     TakeSnapshots,
@@ -76,6 +77,7 @@ fn do_part<R: Wait + Abort>(
     match work {
         Work::ChangeOdd => scanning::change_odd(rt, map, session, told),
         Work::ScanEven => scanning::scan_meanwhile(rt, map, session, told),
+        Work::ScanEvenBack => scanning_back::scan_back_meanwhile(rt, map, session, told),
         Work::InsertAscending => snapshots::insert_ascending(rt, map, session, told),
         Work::TakeSnapshots => snapshots::take_meanwhile(rt, alloc, map, session, told),
         Work::InsertDownwards => splitting::insert_downwards(rt, map, session, told),

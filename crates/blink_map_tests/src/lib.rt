@@ -4,6 +4,8 @@
 #[cfg(test)]
 mod beside;
 #[cfg(test)]
+mod ends;
+#[cfg(test)]
 mod filling;
 #[cfg(test)]
 mod finding_all;
@@ -17,6 +19,8 @@ mod rows_again;
 mod same;
 #[cfg(test)]
 mod scanning;
+#[cfg(test)]
+mod scanning_back;
 #[cfg(test)]
 mod sessions;
 #[cfg(test)]

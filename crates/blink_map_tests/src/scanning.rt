@@ -14,17 +14,17 @@ use std::process::Abort;
 use std::sync::Wait;
 
 // What a place of the slice has before a scan.
-const BEFORE: Entry = Entry {
+pub(crate) const BEFORE: Entry = Entry {
     key: 77,
     pointer: 7,
 };
 
 // A scan into so many places, the entries that it fills in, and the key from which it is to go on.
 pub(crate) struct Scan {
-    range: (u64, u64),
-    places: usize,
-    entries: &'static [(u64, u64)],
-    next: Option<u64>,
+    pub range: (u64, u64),
+    pub places: usize,
+    pub entries: &'static [(u64, u64)],
+    pub next: Option<u64>,
 }
 
 impl Two {
@@ -46,17 +46,17 @@ impl Two {
         let mut into = [BEFORE; 20];
         let (lo, hi) = case.range;
         let scanned = map.scan(one, lo, hi, &mut into[..case.places]);
-        let expected = Scanned {
-            filled: case.entries.len(),
-            next: case.next,
-        };
-        same_for(rt, &scanned, &expected, &case.range);
-        are_entries(rt, &into, case);
+        are_as_expected(rt, &scanned, &into, case);
     }
 }
 
-// The entries of the case, and behind them what was there before.
-fn are_entries(rt: &impl Abort, into: &[Entry], case: &Scan) {
+// The scan came as far as the case says, with its entries, and behind them stands what was there before.
+pub(crate) fn are_as_expected(rt: &impl Abort, scanned: &Scanned, into: &[Entry], case: &Scan) {
+    let expected = Scanned {
+        filled: case.entries.len(),
+        next: case.next,
+    };
+    same_for(rt, scanned, &expected, &case.range);
     for (place, entry) in into.iter().enumerate() {
         let (key, pointer) = *case.entries.get(place).unwrap_or(&(77, 7));
         same_for(rt, entry, &Entry { key, pointer }, &case.range);

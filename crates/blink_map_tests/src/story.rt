@@ -1,5 +1,6 @@
 //! What happens to a map of two sessions from its opening to its close, as a list of acts. Most tests are such stories, which the
 //! same few functions go through: so a test costs its proof next to nothing.
+use crate::ends::Near;
 use crate::same::{given, same, same_for};
 use crate::scanning::Scan;
 use crate::shared::{Two, Who};
@@ -38,6 +39,12 @@ pub(crate) enum Act {
     FindAll(&'static [u64], &'static [Option<u64>]),
     // The first session scans these ranges.
     Scan(&'static [Scan]),
+    // It scans these backwards.
+    ScanBack(&'static [Scan]),
+    // It finds this first and this last entry.
+    Ends(Option<(u64, u64)>, Option<(u64, u64)>),
+    // It finds these entries next to keys.
+    LookNear(&'static [Near]),
     // The first session takes snapshots of these ranges.
     Snapshot(&'static [Taken]),
     // The first session tells the second.
@@ -85,6 +92,9 @@ impl Two {
             Act::ReplaceOften(key, times) => two.replace_often(rt, key, times),
             Act::FindAll(keys, answers) => two.find_all(rt, keys, answers),
             Act::Scan(cases) => two.scan_all(rt, cases),
+            Act::ScanBack(cases) => two.scan_all_back(rt, cases),
+            Act::Ends(first, last) => two.ends(rt, first, last),
+            Act::LookNear(cases) => two.look_near(rt, cases),
             Act::Snapshot(cases) => two.snapshot_all(rt, alloc, cases),
             Act::Tell => two.tell(),
             Act::See(sight) => two.see(rt, sight),

@@ -1,0 +1,241 @@
+//! Backward scans of ranges of keys.
+ghost use Rattle.blink_live.specs.{IsPassOf};
+
+use crate::indexes::Look::Every;
+use crate::same::same;
+use crate::scanning::{BEFORE, CHANGES, Scan, are_as_expected};
+use crate::shared::Shared;
+use crate::story::End;
+use crate::walks::every;
+use crate::works::{Change, Work, change_each};
+use blink_batch::Entry;
+use blink_live::{Live, Pass};
+use std::process::Abort;
+use std::sync::Wait;
+
+impl Shared {
+    fn scan_back(&mut self, rt: &impl Abort, case: &Scan) {
+        assert!(rt;
+            !self.passes.is_empty() && case.places <= 20,
+            "no pass, or too many places"
+        );
+        let mut into = [BEFORE; 20];
+        let (lo, hi) = case.range;
+        let scanned = self
+            .live
+            .scan_back(&mut self.passes[0], lo, hi, &mut into[..case.places]);
+        are_as_expected(rt, &scanned, &into, case);
+    }
+}
+
+const FOURTEEN_DOWN: &[(u64, u64)] = &[
+    (14, 140),
+    (13, 130),
+    (12, 120),
+    (11, 110),
+    (10, 100),
+    (9, 90),
+    (8, 80),
+    (7, 70),
+    (6, 60),
+    (5, 50),
+    (4, 40),
+    (3, 30),
+    (2, 20),
+    (1, 10),
+];
+
+// Of the keys 1 to 14, each with ten times the key, in leaves of at most 4 entries.
+const OF_FOURTEEN: [Scan; 10] = [
+    Scan {
+        range: (0, u64::MAX),
+        places: 20,
+        entries: FOURTEEN_DOWN,
+        next: None,
+    },
+    Scan {
+        range: (4, 6),
+        places: 20,
+        entries: &[(6, 60), (5, 50), (4, 40)],
+        next: None,
+    },
+    Scan {
+        range: (14, 14),
+        places: 1,
+        entries: &[(14, 140)],
+        next: None,
+    },
+    Scan {
+        range: (15, u64::MAX),
+        places: 20,
+        entries: &[],
+        next: None,
+    },
+    Scan {
+        range: (0, 0),
+        places: 1,
+        entries: &[],
+        next: None,
+    },
+    Scan {
+        range: (9, 8),
+        places: 0,
+        entries: &[],
+        next: None,
+    },
+    Scan {
+        range: (2, 14),
+        places: 5,
+        entries: &[(14, 140), (13, 130), (12, 120), (11, 110), (10, 100)],
+        next: Some(9),
+    },
+    Scan {
+        range: (10, 14),
+        places: 5,
+        entries: &[(14, 140), (13, 130), (12, 120), (11, 110), (10, 100)],
+        next: None,
+    },
+    Scan {
+        range: (3, 9),
+        places: 0,
+        entries: &[],
+        next: Some(9),
+    },
+    // The entry before a key.
+    Scan {
+        range: (0, 8),
+        places: 1,
+        entries: &[(8, 80)],
+        next: Some(7),
+    },
+];
+
+#[test]
+fn a_backward_scan_reports_its_range(rt: HostRuntime) {
+    let mut table = Shared::open(&rt, rt.alloc(), (0, 14), (0, 0));
+    table.deal(&rt, &[], 0, 0, Ok(()));
+    for case in &OF_FOURTEEN {
+        table.scan_back(&rt, case);
+    }
+}
+
+// Of the keys 1 to 3, 10 to 14 and the greatest. At least one leaf between has no entry.
+const OF_CHANGED: [Scan; 6] = [
+    Scan {
+        range: (2, 11),
+        places: 20,
+        entries: &[(11, 110), (10, 100), (3, 30), (2, 22)],
+        next: None,
+    },
+    Scan {
+        range: (6, 10),
+        places: 20,
+        entries: &[(10, 100)],
+        next: None,
+    },
+    Scan {
+        range: (5, 9),
+        places: 20,
+        entries: &[],
+        next: None,
+    },
+    Scan {
+        range: (0, 9),
+        places: 1,
+        entries: &[(3, 30)],
+        next: Some(2),
+    },
+    Scan {
+        range: (14, u64::MAX),
+        places: 2,
+        entries: &[(u64::MAX, 1), (14, 140)],
+        next: None,
+    },
+    Scan {
+        range: (u64::MAX, u64::MAX),
+        places: 1,
+        entries: &[(u64::MAX, 1)],
+        next: None,
+    },
+];
+
+#[test]
+fn a_backward_scan_passes_empty_leaves(rt: HostRuntime) {
+    let mut table = Shared::open(&rt, rt.alloc(), (0, 14), (1, 7));
+    table.deal(&rt, &[2, 4, 5, 6, 7, 8, 9, u64::MAX], 1, 7, Ok(()));
+    table.take(&rt, 0, &CHANGES);
+    for case in &OF_CHANGED {
+        table.scan_back(&rt, case);
+    }
+}
+
+// ---- backward scans while others change the tree
+
+// Inserts the thread's keys, each with ten times the key. Then an odd thread deletes its keys, and an even one scans meanwhile.
+pub(crate) fn change_or_scan_back<R: Wait + Abort>(
+    rt: &R,
+    live: &Live,
+    pass: &mut Pass,
+    thread: usize,
+)
+    requires { IsPassOf live.now pass.old }
+    ensures { IsPassOf live.now pass.new }
+{
+    let walk = every(8, thread as u64, 64);
+    change_each(rt, live, pass, &walk, Change::Insert);
+    if thread % 2 == 1 {
+        change_each(rt, live, pass, &walk, Change::Delete);
+    } else {
+        for _ in 0..200 {
+            scan_all_back(rt, live, pass, thread as u64);
+        }
+    }
+}
+
+// Scans all keys, a hundred places at a time: the thread's own are all there, and each key comes once, with ten times the key.
+fn scan_all_back(rt: &impl Abort, live: &Live, pass: &mut Pass, thread: u64)
+    requires { IsPassOf live.now pass.old }
+    ensures { IsPassOf live.now pass.new }
+{
+    let mut into = [BEFORE; 100];
+    let mut from = u64::MAX;
+    let mut own: u64 = 0;
+    for _ in 0..6 {
+        let scanned = live.scan_back(pass, 0, from, &mut into);
+        own = own.wrapping_add(own_among(rt, &into[..scanned.filled], from, thread));
+        match scanned.next {
+            Some(next) => from = next,
+            None => break,
+        }
+    }
+    same(rt, &own, &64);
+}
+
+// How many of these are the thread's own. They descend from this key on.
+fn own_among(rt: &impl Abort, entries: &[Entry], from: u64, thread: u64) -> u64 {
+    let mut greatest = Some(from);
+    let mut own: u64 = 0;
+    for entry in entries {
+        assert!(rt;
+            entry.key < 512 && Some(entry.key) <= greatest,
+            "{entry:?} after {greatest:?}"
+        );
+        same(rt, &entry.pointer, &entry.key.wrapping_mul(10));
+        own = own.wrapping_add(u64::from(entry.key % 8 == thread));
+        greatest = entry.key.checked_sub(1);
+    }
+    own
+}
+
+const EVEN: End = End::Closes(&[Every(2, 0, 256)]);
+
+#[test]
+fn four_threads_scan_back_while_four_change(rt: HostRuntime) {
+    let mut table = Shared::open(&rt, rt.alloc(), (0, 0), (512, 256));
+    for thread in 0..8usize {
+        let deletes = if thread % 2 == 1 { 64 } else { 0 };
+        table.deal_walk(&rt, &every(8, thread as u64, 64), 64, deletes);
+    }
+    table.run(&rt, Work::ChangeOrScanBack);
+    table.end(&rt, EVEN);
+}
