@@ -76,7 +76,8 @@ typedef struct { uint64_t kind, key, pointer; } blink_operation;
 typedef struct { uint64_t kind, pointer; } blink_answer;
 
 /* How far a scan of a pass or a session came. It filled so many places of its array, from the first on. `more` is 1 if the array was
- * full before the end of the range: then another scan goes on from the key `next`. At the end of the range both are 0. */
+ * full before the end of the range: then another scan goes on from the key `next`, which is its `lo`, or backwards its `hi`. At the end
+ * of the range both are 0. */
 typedef struct { uint64_t filled, more, next; } blink_scanned;
 
 /* What became of a snapshot. `taken` is 1 if it was taken, and then `there` is the number of its entries; else both are 0. */
@@ -427,6 +428,11 @@ int blink_pass_glance(blink_pass *pass, uint64_t key, blink_answer *answer);
  * takes no memory. Refused: BLINK_PENDING; BLINK_RETURNED; then nothing changes. */
 int blink_pass_scan(blink_pass *pass, uint64_t lo, uint64_t hi, blink_entry *entries, size_t places, blink_scanned *scanned);
 
+/* The same in descending order: it reads leaf after leaf, from the right, and what it says of a key is what the changes up to some time
+ * in the call leave of it, and of a smaller key those up to that time or a later one. It goes down the tree once for each leaf of the
+ * range. A scan of one place from 0 to `key` gives the last entry up to a key. */
+int blink_pass_scan_back(blink_pass *pass, uint64_t lo, uint64_t hi, blink_entry *entries, size_t places, blink_scanned *scanned);
+
 /* Takes a snapshot: the entries whose keys are from `lo` to `hi`, both included, in ascending order, as all of them were at one time in
  * the call. They are what the changes that the pass has seen then leave of each of these keys. The array gets as many as there are
  * places, and `taken` says how many there are; other places stay as they were. If some leaf of the range was changed at each of `tries`
@@ -608,6 +614,10 @@ int blink_session_find(blink_session *session, uint64_t key, blink_answer *answe
  * changes. */
 int blink_session_scan(blink_session *session, uint64_t lo, uint64_t hi, blink_entry *entries, size_t places,
                        blink_scanned *scanned);
+
+/* The same in descending order, as blink_pass_scan_back. */
+int blink_session_scan_back(blink_session *session, uint64_t lo, uint64_t hi, blink_entry *entries, size_t places,
+                            blink_scanned *scanned);
 
 /* Takes a snapshot: the entries whose keys are from `lo` to `hi`, both included, in ascending order, as all of them were at one time in
  * the call. They are what the changes that the session has seen then leave of each of these keys. The array gets as many as there are

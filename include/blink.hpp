@@ -92,6 +92,16 @@ template <class H, class Scan> std::vector<Entry> scanned(H *handle, Scan scan, 
     return entries;
 }
 
+// The same from the greatest key down.
+template <class H, class Scan> std::vector<Entry> scanned_back(H *handle, Scan scan, Key lo, Key hi) {
+    std::vector<Entry> entries, part(256);
+    for (blink_scanned end{0, 1, hi}; end.more;) {
+        check(scan(handle, lo, end.next, part.data(), part.size(), &end));
+        entries.insert(entries.end(), part.begin(), part.begin() + static_cast<std::ptrdiff_t>(end.filled));
+    }
+    return entries;
+}
+
 // All entries of a range at one time, or none where each try was in vain.
 template <class H, class Snapshot>
 std::optional<std::vector<Entry>> snapshot(H *handle, Snapshot snapshot, Key lo, Key hi, std::uint32_t tries) {
@@ -355,6 +365,10 @@ public:
     std::vector<Entry> scan(Key lo, Key hi) {
         return detail::scanned(&handle_, [](auto... all) { return blink_session_scan(all...); }, lo, hi);
     }
+    // The same from the greatest key down.
+    std::vector<Entry> scan_back(Key lo, Key hi) {
+        return detail::scanned_back(&handle_, [](auto... all) { return blink_session_scan_back(all...); }, lo, hi);
+    }
     std::optional<std::vector<Entry>> snapshot(Key lo, Key hi, std::uint32_t tries) {
         return detail::snapshot(&handle_, [](auto... all) { return blink_session_snapshot(all...); }, lo, hi, tries);
     }
@@ -454,6 +468,10 @@ public:
     Answer remove_exact(Key key, Pointer expected) { return ended(blink_pass_begin_delete_exact(&handle_, key, expected)); }
     std::vector<Entry> scan(Key lo, Key hi) {
         return detail::scanned(&handle_, [](auto... all) { return blink_pass_scan(all...); }, lo, hi);
+    }
+    // The same from the greatest key down.
+    std::vector<Entry> scan_back(Key lo, Key hi) {
+        return detail::scanned_back(&handle_, [](auto... all) { return blink_pass_scan_back(all...); }, lo, hi);
     }
     std::optional<std::vector<Entry>> snapshot(Key lo, Key hi, std::uint32_t tries) {
         return detail::snapshot(&handle_, [](auto... all) { return blink_pass_snapshot(all...); }, lo, hi, tries);

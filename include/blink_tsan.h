@@ -47,13 +47,16 @@ static inline void blink_tsan_read(const blink_entry *entries, uint64_t count) {
     }
 #define BLINK_TSAN_ANSWERS(name, parameters, arguments)                                                                                    \
     static inline blink_tsan_code blink_tsan_##name parameters { return blink_tsan_answered(blink_##name arguments, answer); }
-#define BLINK_TSAN_RANGES(kind)                                                                                                            \
-    static inline blink_tsan_code blink_tsan_##kind##_scan(blink_##kind *it, uint64_t lo, uint64_t hi, blink_entry *entries,               \
-                                                           size_t places, blink_scanned *scanned) {                                        \
-        blink_tsan_code code = blink_##kind##_scan(it, lo, hi, entries, places, scanned);                                                  \
+#define BLINK_TSAN_SCANS(name, handle)                                                                                                     \
+    static inline blink_tsan_code blink_tsan_##name(handle *it, uint64_t lo, uint64_t hi, blink_entry *entries, size_t places,             \
+                                                    blink_scanned *scanned) {                                                              \
+        blink_tsan_code code = blink_##name(it, lo, hi, entries, places, scanned);                                                         \
         if (code == BLINK_DONE) blink_tsan_read(entries, scanned->filled);                                                                 \
         return code;                                                                                                                       \
-    }                                                                                                                                      \
+    }
+#define BLINK_TSAN_RANGES(kind)                                                                                                            \
+    BLINK_TSAN_SCANS(kind##_scan, blink_##kind)                                                                                            \
+    BLINK_TSAN_SCANS(kind##_scan_back, blink_##kind)                                                                                       \
     static inline blink_tsan_code blink_tsan_##kind##_snapshot(blink_##kind *it, uint64_t lo, uint64_t hi, uint32_t tries,                 \
                                                                blink_entry *entries, size_t places, blink_taken *taken) {                  \
         blink_tsan_code code = blink_##kind##_snapshot(it, lo, hi, tries, entries, places, taken);                                         \
@@ -91,6 +94,7 @@ BLINK_TSAN_RANGES(session)
 #define blink_pass_find(...) blink_tsan_pass_find(__VA_ARGS__)
 #define blink_pass_glance(...) blink_tsan_pass_glance(__VA_ARGS__)
 #define blink_pass_scan(...) blink_tsan_pass_scan(__VA_ARGS__)
+#define blink_pass_scan_back(...) blink_tsan_pass_scan_back(__VA_ARGS__)
 #define blink_pass_snapshot(...) blink_tsan_pass_snapshot(__VA_ARGS__)
 #define blink_session_insert(...) blink_tsan_session_insert(__VA_ARGS__)
 #define blink_session_replace(...) blink_tsan_session_replace(__VA_ARGS__)
@@ -101,6 +105,7 @@ BLINK_TSAN_RANGES(session)
 #define blink_session_advance(...) blink_tsan_session_advance(__VA_ARGS__)
 #define blink_session_find(...) blink_tsan_session_find(__VA_ARGS__)
 #define blink_session_scan(...) blink_tsan_session_scan(__VA_ARGS__)
+#define blink_session_scan_back(...) blink_tsan_session_scan_back(__VA_ARGS__)
 #define blink_session_snapshot(...) blink_tsan_session_snapshot(__VA_ARGS__)
 
 #ifdef __cplusplus

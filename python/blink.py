@@ -139,6 +139,7 @@ def _declared():
     for it in "session", "pass":
         yield f"blink_{it}_find", CODE, handle, u64, answer
         yield f"blink_{it}_scan", CODE, handle, u64, u64, entry, size, scanned
+        yield f"blink_{it}_scan_back", CODE, handle, u64, u64, entry, size, scanned
         yield f"blink_{it}_snapshot", CODE, handle, u64, u64, u32, entry, size, taken
         yield f"blink_{it}_tell", CODE, handle, handle
         yield f"blink_{it}_advance", CODE, handle, u32, answer
@@ -459,6 +460,16 @@ class _Ranges(_Owner):
         with self._lock:
             while end.more:
                 _check(self._call("scan", end.next, hi, part, len(part), end))
+                found += _pairs(part, end.filled)
+        return found
+
+    def scan_back(self, lo, hi):
+        """The same from the greatest key down."""
+        found, part, end = [], (_Entry * 256)(), _Scanned(0, 1, _number(hi))
+        lo = _number(lo)
+        with self._lock:
+            while end.more:
+                _check(self._call("scan_back", lo, end.next, part, len(part), end))
                 found += _pairs(part, end.filled)
         return found
 

@@ -97,7 +97,9 @@ static void shares_a_map() {
     one.tell(other);
     CHECK(other.find(5) == 7u && is(other.remove_exact(KEYS, 8), BLINK_EXISTS, 9) && is(other.remove(KEYS), BLINK_REMOVED, 9));
     CHECK(other.scan(0, 1000).size() == KEYS && other.scan(6, 6)[0].pointer == THREADS * TURNS && other.scan(200, 300).empty());
+    CHECK(other.scan_back(0, 1000).size() == KEYS && other.scan_back(0, 6)[0].key == 6 && other.scan_back(200, 300).empty());
     for (std::uint64_t key = 1000; key < 2000; key++) CHECK(one.insert(key, key).kind == BLINK_INSERTED);
+    CHECK(other.scan_back(0, 5000).size() == KEYS + 1000 && other.scan_back(0, 5000)[999].key == 1000);
     CHECK(other.snapshot(0, 5000, 10)->size() == KEYS + 1000 && !other.snapshot(0, 1, 0) && other.scan(0, 5000).size() == KEYS + 1000);
     CHECK(one.reserve().pages > 0 && map.room().rows > 0);
     {
@@ -131,6 +133,7 @@ static void shares_a_table() {
     CHECK(refused(BLINK_NOT_YOURS, [&] { even.find(1); }) && refused(BLINK_SPENT, [&] { even.insert(2, 0); }));
     odd.tell(even);
     CHECK(even.find(2) == 20u && even.glance(3) == 30u && even.scan(0, 5000).size() == 2000 && even.snapshot(1, 2, 1)->size() == 2);
+    CHECK(even.scan_back(0, 5000).size() == 2000 && even.scan_back(0, 3)[0].key == 3);
     CHECK(is(even.replace(2, 21), BLINK_REPLACED, 20) && is(even.exchange(2, 20, 22), BLINK_EXISTS, 21));
     CHECK(is(even.remove_exact(2, 21), BLINK_REMOVED, 21) && is(even.remove(4), BLINK_REMOVED, 40) && !even.find(4));
     CHECK(refused(BLINK_TRANSFER_NOT_YOURS, [&] { even.transfer(odd, {6, 7}); }));

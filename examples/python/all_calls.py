@@ -145,6 +145,7 @@ def shares_a_map():
     in_threads(adds, [shared.join() for _ in range(8)])
     one, other = shared.join(), shared.join()
     assert one.scan(0, MOST) == [(key, 800) for key in range(10)]
+    assert one.scan_back(0, MOST) == [(key, 800) for key in reversed(range(10))]
     assert one.put(5, 7) == 800 and one.put(10, 8) is None and one.replace(10, 9) == (REPLACED, 8)
     one.tell(other)
     assert other.find(5) == 7 and other.remove_exact(10, 8) == (EXISTS, 9) and other.remove(10) == (REMOVED, 9)
@@ -152,6 +153,7 @@ def shares_a_map():
     for key in range(1000, 2000):
         one.insert(key, key)
     assert len(other.snapshot(0, MOST)) == 1010 and other.snapshot(0, 1, tries=0) is None and len(other.scan(1500, 1999)) == 500
+    assert len(other.scan_back(0, MOST)) == 1010 and other.scan_back(0, 1001)[:2] == [(1001, 1001), (1000, 1000)]
     assert one.reserve().pages > 0 and shared.room()[1] > 0
     more = [shared.join() for _ in range(6)]
     assert refuses(blink.Error, shared.join).name == "NO_SESSION"
@@ -183,6 +185,7 @@ def shares_a_table():
     assert refuses(blink.Error, even.find, 1).name == "NOT_YOURS" and refuses(blink.Error, even.insert, 2, 0).name == "SPENT"
     odd.tell(even)
     assert even.find(2) == 20 and even.glance(3) == 30 and len(even.scan(0, MOST)) == 200 and len(even.snapshot(1, 2)) == 2
+    assert len(even.scan_back(0, MOST)) == 200 and even.scan_back(0, 3)[0] == (3, 30)
     assert even.replace(2, 21) == (REPLACED, 20) and even.exchange(2, 20, 22) == (EXISTS, 21)
     assert even.remove_exact(2, 21) == (REMOVED, 21) and even.remove(4) == (REMOVED, 40) and even.find(4) is None
     assert refuses(blink.Error, even.transfer, odd, [6, 7]).key == 7

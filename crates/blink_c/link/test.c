@@ -270,6 +270,10 @@ static void refuses_at_a_table(void) {
     CHECK(range[0].key == 2 && range[0].pointer == 20 && range[1].key == 3 && range[1].pointer == 30);
     CHECK(blink_pass_scan(&pass, 4, 4, range, 2, &scanned) == BLINK_DONE && scanned.filled == 1 && scanned.more == 0 && scanned.next == 0);
     CHECK(range[0].key == 4 && range[1].key == 3);
+    CHECK(blink_pass_scan_back(&pass, 2, 4, range, 2, &scanned) == BLINK_DONE && scanned.filled == 2 && scanned.more == 1 && scanned.next == 2);
+    CHECK(range[0].key == 4 && range[0].pointer == 40 && range[1].key == 3 && range[1].pointer == 30);
+    CHECK(blink_pass_scan_back(&pass, 0, 2, range, 2, &scanned) == BLINK_DONE && scanned.filled == 2 && scanned.more == 0 && scanned.next == 0);
+    CHECK(range[0].key == 2 && range[0].pointer == 20 && range[1].key == 1 && range[1].pointer == 10);
     blink_taken snapshot = {9, 9};
     CHECK(blink_pass_snapshot(&pass, 2, 3, 1, range, 2, &snapshot) == BLINK_DONE && snapshot.taken == 1 && snapshot.there == 2);
     CHECK(range[0].key == 2 && range[0].pointer == 20 && range[1].key == 3 && range[1].pointer == 30);
@@ -691,6 +695,8 @@ static void refuses_under_way(void) {
     CHECK(blink_map_join(&map, &one) == BLINK_DONE && blink_map_join(&map, &other) == BLINK_DONE);
     blink_entry range[2] = {{9, 9}, {9, 9}};
     blink_scanned scanned = {9, 9, 9};
+    CHECK(blink_session_scan_back(&one, 0, 4, range, 2, &scanned) == BLINK_DONE && scanned.filled == 2 && scanned.more == 1 && scanned.next == 2);
+    CHECK(range[0].key == 4 && range[0].pointer == 40 && range[1].key == 3 && range[1].pointer == 30);
     CHECK(blink_session_scan(&one, 4, 9, range, 2, &scanned) == BLINK_DONE && scanned.filled == 2 && scanned.more == 0);
     CHECK(range[0].key == 4 && range[0].pointer == 40 && range[1].key == 5 && range[1].pointer == 50);
     blink_taken snapshot = {9, 9};
@@ -700,6 +706,7 @@ static void refuses_under_way(void) {
     leaves_a_put_under_way(&one, &other, 9, 99);
     CHECK(blink_session_snapshot(&one, 0, 9, 1, range, 2, &snapshot) == BLINK_PENDING && snapshot.there == 1);
     CHECK(blink_session_scan(&one, 0, 9, range, 2, &scanned) == BLINK_PENDING && range[0].key == 4 && scanned.filled == 2);
+    CHECK(blink_session_scan_back(&one, 0, 9, range, 2, &scanned) == BLINK_PENDING && range[0].key == 4 && scanned.filled == 2);
     CHECK(blink_session_find(&one, 3, &answer) == BLINK_PENDING && blink_session_insert(&one, 9, 90, 100, &answer) == BLINK_PENDING);
     CHECK(blink_session_delete(&one, 3, 100, &answer) == BLINK_PENDING && blink_session_put(&one, 9, 90, 100, &answer) == BLINK_PENDING);
     CHECK(blink_session_replace(&one, 3, 34, 100, &answer) == BLINK_PENDING);

@@ -3,7 +3,7 @@ ghost use Rattle.std.specs.Prelude.{◌≡◌, ◌≢◌};
 ghost use Rattle.blink_batch.specs.declared.Op.TheVariants.{Delete, DeleteExact, Exchange, Insert, Replace};
 ghost use Rattle.blink_map.specs.{IsUpdate};
 ghost use Rattle.blink_owners.specs.Codes.{TellsWhy};
-ghost use Rattle.blink_owners.specs.Passes.{Ends, Finds, Glances, Hands, IsAdvanceRefusal, IsFindRefusal, IsNotFree, IsOwn, IsTakeRefusal, IsTellRefusal, Scans, Takes, TellsHandFault, TellsOn, table_of};
+ghost use Rattle.blink_owners.specs.Passes.{Ends, Finds, Glances, Hands, IsAdvanceRefusal, IsFindRefusal, IsNotFree, IsOwn, IsTakeRefusal, IsTellRefusal, Scans, ScansBack, Takes, TellsHandFault, TellsOn, table_of};
 ghost use Rattle.blink_owners.specs.TableCodes.{code_of, code_of_not_yours};
 ghost use Rattle.blink_c.specs.Changing.{BeginsChange};
 
@@ -57,6 +57,27 @@ pub extern "C" fn blink_pass_scan(
         × (entries.new ≡ entries.old) × (scanned.new ≡ scanned.old) }
 {
     code_of(&pass.get().scan(lo, hi, entries, scanned))
+}
+
+/// Gives the entries whose keys are from `lo` to `hi`, whosever they are, the greatest first, as many as there are places, and tells how far it
+/// came.
+#[unsafe(no_mangle)]
+pub extern "C" fn blink_pass_scan_back(
+    pass: &mut PassHandle,
+    lo: u64,
+    hi: u64,
+    entries: &mut [Entry],
+    scanned: &mut RawScanned,
+) -> Code
+    requires its_own { IsOwn pass.old.value }
+    ensures its_own { IsOwn pass.new.value }
+    ensures scanned { result ≡ 0
+        → ScansBack lo hi pass.old.value pass.new.value entries.old entries.new scanned.new }
+    ensures refused { TellsWhy code_of (IsNotFree pass.old.value.held) result }
+    ensures unchanged { result ≢ 0 → (pass.new.value ≡ pass.old.value)
+        × (entries.new ≡ entries.old) × (scanned.new ≡ scanned.old) }
+{
+    code_of(&pass.get().scan_back(lo, hi, entries, scanned))
 }
 
 /// Takes a snapshot of the entries whose keys are from `lo` to `hi`, as all of them were at one time. It tries so many times, and

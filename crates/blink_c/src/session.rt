@@ -5,7 +5,7 @@ ghost use Rattle.blink_batch.specs.declared.Op.TheVariants.{Delete, DeleteExact,
 ghost use Rattle.blink_map.specs.{IsUpdate};
 ghost use Rattle.blink_owners.specs.Codes.{TellsWhy};
 ghost use Rattle.blink_owners.specs.MapCodes.{code_of};
-ghost use Rattle.blink_owners.specs.Sessions.{EndsFrom, Finds, IsAdvanceRefusal, IsNotFree, IsOwnSession, IsPutRefusal, IsTakeRefusal, IsTellRefusal, Puts, Scans, Takes, TellsOn, TellsStock, in_map};
+ghost use Rattle.blink_owners.specs.Sessions.{EndsFrom, Finds, IsAdvanceRefusal, IsNotFree, IsOwnSession, IsPutRefusal, IsTakeRefusal, IsTellRefusal, Puts, Scans, ScansBack, Takes, TellsOn, TellsStock, in_map};
 ghost use Rattle.blink_c.specs.Changing.{ChangesMap};
 
 use crate::session_handle::SessionHandle;
@@ -51,6 +51,27 @@ pub extern "C" fn blink_session_scan(
         × (entries.new ≡ entries.old) × (scanned.new ≡ scanned.old) }
 {
     code_of(&session.get().scan(lo, hi, entries, scanned))
+}
+
+/// Gives the entries whose keys are from `lo` to `hi`, the greatest first, as many as there are places, and tells how far it
+/// came.
+#[unsafe(no_mangle)]
+pub extern "C" fn blink_session_scan_back(
+    session: &mut SessionHandle,
+    lo: u64,
+    hi: u64,
+    entries: &mut [Entry],
+    scanned: &mut RawScanned,
+) -> Code
+    requires its_own { IsOwnSession session.old.value }
+    ensures its_own { IsOwnSession session.new.value }
+    ensures scanned { result ≡ 0
+        → ScansBack lo hi session.old.value session.new.value entries.old entries.new scanned.new }
+    ensures refused { TellsWhy code_of (IsNotFree session.old.value.held) result }
+    ensures unchanged { result ≢ 0 → (session.new.value ≡ session.old.value)
+        × (entries.new ≡ entries.old) × (scanned.new ≡ scanned.old) }
+{
+    code_of(&session.get().scan_back(lo, hi, entries, scanned))
 }
 
 /// Takes a snapshot of the entries whose keys are from `lo` to `hi`, as all of them were at one time. It tries so many times, and

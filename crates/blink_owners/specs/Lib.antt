@@ -14,15 +14,15 @@ pub use Rattle.blink_owners.specs.Codes.{TellsNewFault, TellsWhy}
 pub use Rattle.blink_owners.specs.Found.{found_answer, pointer_or}
 pub use Rattle.blink_owners.specs.Filled.{overlaid, put_if_fits}
 -- what a scan of a table or a map gives, and a snapshot
-pub use Rattle.blink_owners.specs.Reports.{HasReported, TellsTaken}
+pub use Rattle.blink_owners.specs.Reports.{HasReported, HasReportedBack, TellsTaken}
 -- a table behind a handle: what the calls make of it, and why they are refused
 pub use Rattle.blink_owners.specs.Tables.{DealsTo, IsNewTable, IsOwnTable, IsReturnRefusal, TakesBack, TellsDealFault}
 -- a pass behind a handle likewise
-pub use Rattle.blink_owners.specs.Passes.{Begins, Ends, Finds, Glances, Hands, IsAdvanceRefusal, IsBeginRefusal, IsFindRefusal, IsHandRefusal, IsOwn, IsTakeRefusal, IsTellRefusal, Scans, Takes, TellsHandFault, TellsOn}
+pub use Rattle.blink_owners.specs.Passes.{Begins, Ends, Finds, Glances, Hands, IsAdvanceRefusal, IsBeginRefusal, IsFindRefusal, IsHandRefusal, IsOwn, IsTakeRefusal, IsTellRefusal, Scans, ScansBack, Takes, TellsHandFault, TellsOn}
 -- a map behind a handle: what the calls make of it, and why they are refused
 pub use Rattle.blink_owners.specs.Maps.{HasBadSessions, IsNewMap, IsTooLargeMap, Joins}
 -- a session behind a handle likewise
-pub use Rattle.blink_owners.specs.Sessions.{Answers, EndsFrom, Finds as SessionFinds, IsAdvanceRefusal as IsSessionAdvanceRefusal, IsChangeRefusal, IsOwnSession, IsPutRefusal, IsShortage, IsTakeRefusal as IsSessionTakeRefusal, IsTellRefusal as IsSessionTellRefusal, Puts, Scans as SessionScans, Takes as SessionTakes, TellsOn as SessionTellsOn, TellsStock}
+pub use Rattle.blink_owners.specs.Sessions.{Answers, EndsFrom, Finds as SessionFinds, IsAdvanceRefusal as IsSessionAdvanceRefusal, IsChangeRefusal, IsOwnSession, IsPutRefusal, IsShortage, IsTakeRefusal as IsSessionTakeRefusal, IsTellRefusal as IsSessionTellRefusal, Puts, Scans as SessionScans, ScansBack as SessionScansBack, Takes as SessionTakes, TellsOn as SessionTellsOn, TellsStock}
 -- readers of an index, each behind a handle
 pub use Rattle.blink_owners.specs.Readers.{index_at, index_in}
 -- ---- the files

@@ -1,5 +1,5 @@
 -- A pass behind a handle: what the calls make of it, and why they are refused.
-use Rattle.std.specs.Prelude.{◌≡◌, ◌≢◌, ◌⊎◌, ℕ, List, None, Contains, take, ⊤}
+use Rattle.std.specs.Prelude.{◌≡◌, ◌≢◌, ◌⊎◌, ℕ, ◌+◌, List, None, Contains, take, ⊤}
 use Rattle.std.specs.Arc.{arc_value}
 use mathlib.Core.List.{IsPrefix}
 use Rattle.blink_batch.specs.declared.Entry.{Entry}
@@ -14,7 +14,7 @@ use Rattle.blink_live.specs.declared.error.HandError.{HandError}
 use Rattle.blink_live.specs.declared.error.HandError.TheVariants as hand
 use Rattle.blink_live.specs.declared.error.LiveError.TheVariants.{OutOfMemory}
 use Rattle.blink_live.specs.declared.error.PassError.TheVariants.{NotYours, Spent}
-use Rattle.blink_live.specs.{AllAreYours, HasBegun, IsChangedBy, IsHandRefusal as IsRefusalOfKeys, IsHanded, IsPassOf, IsPendingOf, IsSameBesideSeen, IsSamePass, IsWaiting, KnowsItsKeys, SawAllOf, SaysOfKeys, after, keys_of, op_of, opening_of, pass_of, seen_of, share_of, stop_of}
+use Rattle.blink_live.specs.{AllAreYours, HasBegun, IsChangedBy, IsHandRefusal as IsRefusalOfKeys, IsHanded, IsPassOf, IsPendingOf, IsSameBesideSeen, IsSamePass, IsWaiting, KnowsItsKeys, SawAllOf, SaysOfKeys, after, keys_of, op_of, opening_of, pass_of, seen_of, share_of, start_of, stop_of}
 use Rattle.blink_live.specs.Allowed.{changes_left}
 use Rattle.blink_owners.specs.declared.raw.RawAnswer.{RawAnswer}
 use Rattle.blink_owners.specs.declared.raw.RawScanned.{RawScanned}
@@ -25,7 +25,7 @@ use Rattle.blink_owners.specs.declared.pass_owner.PassOwner.{PassOwner}
 use Rattle.blink_owners.specs.declared.table_refusal.TableRefusal.{TableRefusal}
 use Rattle.blink_owners.specs.declared.table_refusal.TableRefusal.TheVariants as refused
 use Rattle.blink_owners.specs.Raw.{raw_answer, raw_shown}
-use Rattle.blink_owners.specs.Reports.{HasReported, TellsTaken}
+use Rattle.blink_owners.specs.Reports.{HasReported, HasReportedBack, TellsTaken}
 use Rattle.blink_owners.specs.TableCodes.{code_of}
 
 -- the table
@@ -91,6 +91,16 @@ pub record Scans (lo hi : ℕ) (old new : PassOwner) (places filled : List Entry
   pub free : StaysFree old new before now
   pub reported : HasReported (opening_of (table_of old)) (seen_of before) (seen_of now) lo hi places filled given
   pub own : SaysOfKeys (keys_of before) (share_of before) lo (stop_of hi reported.scanned.next) (take reported.scanned.filled filled)
+  pub same : IsSameBesideSeen before now
+  pub knows : KnowsItsKeys (table_of old) now
+
+-- the same backwards
+pub record ScansBack (lo hi : ℕ) (old new : PassOwner) (places filled : List Entry) (given : RawScanned) : Type 0 where
+  pub before : Pass
+  pub now : Pass
+  pub free : StaysFree old new before now
+  pub reported : HasReportedBack (opening_of (table_of old)) (seen_of before) (seen_of now) lo hi places filled given
+  pub own : SaysOfKeys (keys_of before) (share_of before) (start_of lo reported.scanned.next) (hi + 1) (take reported.scanned.filled filled)
   pub same : IsSameBesideSeen before now
   pub knows : KnowsItsKeys (table_of old) now
 

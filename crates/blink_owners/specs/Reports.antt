@@ -3,7 +3,7 @@ use Rattle.std.specs.Prelude.{◌≡◌, ◌⊎◌, ℕ, ◌≤◌, List, ◌++�
 use Rattle.blink_batch.specs.declared.Entry.{Entry}
 use Rattle.blink_live.specs.declared.scan.Scanned.{Scanned}
 use Rattle.blink_live.specs.declared.view.Change.{Change}
-use Rattle.blink_live.specs.{IsReport, IsSnapshot, StoppedFull, stop_of}
+use Rattle.blink_live.specs.{IsReport, IsReportBack, IsSnapshot, StoppedFull, start_of, stop_of}
 use Rattle.blink_owners.specs.declared.raw.RawScanned.{RawScanned}
 use Rattle.blink_owners.specs.declared.raw.RawTaken.{RawTaken}
 use Rattle.blink_owners.specs.Raw.{raw_scanned}
@@ -14,6 +14,15 @@ pub record HasReported (opening : List Entry) (old new : List Change) (lo hi : �
   pub scanned : Scanned
   pub told : given ≡ raw_scanned scanned
   pub report : IsReport opening old new lo (stop_of hi scanned.next) (take scanned.filled now)
+  pub stopped : IfSome scanned.next (StoppedFull lo hi (length before) scanned.filled)
+  pub filled : scanned.filled ≤ length before
+  pub others : drop scanned.filled now ≡ drop scanned.filled before
+
+-- the same of a backward scan
+pub record HasReportedBack (opening : List Entry) (old new : List Change) (lo hi : ℕ) (before now : List Entry) (given : RawScanned) : Type 0 where
+  pub scanned : Scanned
+  pub told : given ≡ raw_scanned scanned
+  pub report : IsReportBack opening old new (start_of lo scanned.next) hi (take scanned.filled now)
   pub stopped : IfSome scanned.next (StoppedFull lo hi (length before) scanned.filled)
   pub filled : scanned.filled ≤ length before
   pub others : drop scanned.filled now ≡ drop scanned.filled before

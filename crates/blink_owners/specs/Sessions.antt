@@ -24,7 +24,7 @@ use Rattle.blink_owners.specs.declared.session_owner.HeldSession.{HeldSession}
 use Rattle.blink_owners.specs.declared.session_owner.HeldSession.TheVariants.{Free, Busy, Putting, Gone}
 use Rattle.blink_owners.specs.declared.session_owner.SessionOwner.{SessionOwner}
 use Rattle.blink_owners.specs.Raw.{raw_answer, raw_shown, raw_stock}
-use Rattle.blink_owners.specs.Reports.{HasReported, TellsTaken}
+use Rattle.blink_owners.specs.Reports.{HasReported, HasReportedBack, TellsTaken}
 
 -- the map
 abbrev pub in_map : SessionOwner → Map
@@ -87,6 +87,14 @@ pub record Scans (lo hi : ℕ) (old new : SessionOwner) (places filled : List En
   pub now : Session
   pub free : StaysFree old new before now
   pub reported : HasReported (opening_of (in_map old)) (seen_by before) (seen_by now) lo hi places filled given
+  pub same : IsSameBesideSeen before now
+
+-- the same backwards
+pub record ScansBack (lo hi : ℕ) (old new : SessionOwner) (places filled : List Entry) (given : RawScanned) : Type 0 where
+  pub before : Session
+  pub now : Session
+  pub free : StaysFree old new before now
+  pub reported : HasReportedBack (opening_of (in_map old)) (seen_by before) (seen_by now) lo hi places filled given
   pub same : IsSameBesideSeen before now
 
 -- a snapshot of a range is taken, or couldn't be

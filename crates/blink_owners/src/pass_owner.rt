@@ -4,7 +4,7 @@ ghost use Rattle.blink_batch.specs.{key_of};
 ghost use Rattle.blink_machine.specs.{IsUpdate};
 ghost use Rattle.blink_live.specs.{HasBegun, IsPassOf, IsPendingOf, keys_of};
 ghost use Rattle.blink_live.specs.Allowed.{changes_left};
-ghost use Rattle.blink_owners.specs.Passes.{Begins, Ends, Finds, Glances, Hands, IsAdvanceRefusal, IsBeginRefusal, IsFindRefusal, IsHandRefusal, IsNotBusy, IsNotFree, IsOwn, IsTakeRefusal, IsTellRefusal, Scans, Takes, TellsOn, table_of};
+ghost use Rattle.blink_owners.specs.Passes.{Begins, Ends, Finds, Glances, Hands, IsAdvanceRefusal, IsBeginRefusal, IsFindRefusal, IsHandRefusal, IsNotBusy, IsNotFree, IsOwn, IsTakeRefusal, IsTellRefusal, Scans, ScansBack, Takes, TellsOn, table_of};
 
 use crate::raw::{RawAnswer, RawScanned, RawTaken};
 use crate::table_refusal::TableRefusal;
@@ -103,6 +103,30 @@ impl PassOwner {
             return Err(self.held.why_not_free());
         };
         let came = self.live.scan(pass, lo, hi, entries);
+        *scanned = RawScanned::of(came);
+        Ok(())
+    }
+
+    /// Scans a range of keys backwards.
+    pub fn scan_back(
+        &mut self,
+        lo: u64,
+        hi: u64,
+        entries: &mut [Entry],
+        scanned: &mut RawScanned,
+    ) -> Result<(), TableRefusal>
+        requires its_own { IsOwn self.old }
+        ensures its_own { IsOwn self.new }
+        ensures scanned { OnOk result
+            (ScansBack lo hi self.old self.new entries.old entries.new scanned.new) }
+        ensures refused { IfErr result (IsNotFree self.old.held) }
+        ensures unchanged { OnErr result
+            ((self.new ≡ self.old) × (entries.new ≡ entries.old) × (scanned.new ≡ scanned.old)) }
+    {
+        let Held::Free(pass) = &mut self.held else {
+            return Err(self.held.why_not_free());
+        };
+        let came = self.live.scan_back(pass, lo, hi, entries);
         *scanned = RawScanned::of(came);
         Ok(())
     }

@@ -4,7 +4,7 @@ ghost use Rattle.blink_batch.specs.{FitsWords};
 ghost use Rattle.blink_machine.specs.{IsUpdate};
 ghost use Rattle.blink_map.specs.{HasTried, IsAnswered, IsPendingOf, IsSessionOf, op_of, session_of};
 ghost use Rattle.blink_map.specs.declared.map.Session.{Session};
-ghost use Rattle.blink_owners.specs.Sessions.{Answers, EndsFrom, Finds, HasAnswered, HasPut, IsAdvanceRefusal, IsChangeRefusal, IsNotFree, IsNotPut, IsOfPut, IsOwnSession, IsPutRefusal, IsShortage, IsTakeRefusal, IsTellRefusal, Puts, Scans, StaysBusy, Takes, TellsOn, TellsStock, in_map};
+ghost use Rattle.blink_owners.specs.Sessions.{Answers, EndsFrom, Finds, HasAnswered, HasPut, IsAdvanceRefusal, IsChangeRefusal, IsNotFree, IsNotPut, IsOfPut, IsOwnSession, IsPutRefusal, IsShortage, IsTakeRefusal, IsTellRefusal, Puts, Scans, ScansBack, StaysBusy, Takes, TellsOn, TellsStock, in_map};
 
 use crate::map_refusal::MapRefusal;
 use crate::raw::{RawAnswer, RawScanned, RawStock, RawTaken};
@@ -73,6 +73,30 @@ impl SessionOwner {
             return Err(MapRefusal::UnderWay);
         };
         let came = self.shared.map.scan(session, lo, hi, entries);
+        *scanned = RawScanned::of(came);
+        Ok(())
+    }
+
+    /// Scans a range of keys backwards.
+    pub fn scan_back(
+        &mut self,
+        lo: u64,
+        hi: u64,
+        entries: &mut [Entry],
+        scanned: &mut RawScanned,
+    ) -> Result<(), MapRefusal>
+        requires its_own { IsOwnSession self.old }
+        ensures its_own { IsOwnSession self.new }
+        ensures scanned { OnOk result
+            (ScansBack lo hi self.old self.new entries.old entries.new scanned.new) }
+        ensures refused { IfErr result (IsNotFree self.old.held) }
+        ensures unchanged { OnErr result
+            ((self.new ≡ self.old) × (entries.new ≡ entries.old) × (scanned.new ≡ scanned.old)) }
+    {
+        let HeldSession::Free(session) = &mut self.held else {
+            return Err(MapRefusal::UnderWay);
+        };
+        let came = self.shared.map.scan_back(session, lo, hi, entries);
         *scanned = RawScanned::of(came);
         Ok(())
     }
