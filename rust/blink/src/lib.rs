@@ -39,9 +39,9 @@
 //! `remove` | `remove(key).pointer()`
 //! `contains_key` | `contains`
 //! `get`, `map[&key]` | `get`, which returns the pointer itself; no call lends a reference, so `get_mut`, `iter_mut` and `values_mut` are `update`
-//! `first_key_value`, `last_key_value` | `first`, `last`; of a session `first` alone
-//! `range(..key).next_back()`, `range(key..).next()` | `prev`, `at_least`; of a session `range(key..).next()` alone
-//! `range(..).rev()` | the same; a session's range goes up only
+//! `first_key_value`, `last_key_value` | `first`, `last`
+//! `range(..key).next_back()`, `range(key..).next()` | `prev`, `at_least`
+//! `range(..).rev()` | the same
 //! `entry` | `update`
 //! `retain(keeps)` | `retain(.., keeps)`, which returns how many entries it took
 //! `into_iter` | `iter`, or `for entry in &index`; there is no iterator that owns the index

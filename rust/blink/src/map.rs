@@ -402,6 +402,41 @@ impl<'map> Session<'map> {
         self.range((Bound::Excluded(key), Bound::Unbounded)).next()
     }
 
+    /// Returns the entry of the least key from this one on, in the same way.
+    pub fn at_least(&mut self, key: u64) -> Option<(u64, u64)> {
+        self.range(key..).next()
+    }
+
+    /// Returns the entry of the greatest key, while other sessions change the map: what a backward scan reports first. Emptied leaves stay in
+    /// the tree, and the call goes down to each of those behind the entry.
+    ///
+    /// ```
+    /// use blink::{Index, Map, Room};
+    ///
+    /// let index = Index::from_entries(8, [(1, 10), (3, 30)])?;
+    /// let map = Map::open(&index, Room { pages: 22, rows: 44, sessions: 1 })?;
+    /// let mut session = map.session()?;
+    /// assert_eq!(session.last(), Some((3, 30)));
+    /// assert_eq!(session.prev(3), Some((1, 10)));
+    /// assert_eq!(session.prev(1), None);
+    /// assert_eq!(session.at_most(2), Some((1, 10)));
+    /// assert_eq!(session.at_least(2), Some((3, 30)));
+    /// # Ok::<(), blink::Error>(())
+    /// ```
+    pub fn last(&mut self) -> Option<(u64, u64)> {
+        self.range(..).next_back()
+    }
+
+    /// Returns the entry of the greatest key below this one, in the same way.
+    pub fn prev(&mut self, key: u64) -> Option<(u64, u64)> {
+        self.range(..key).next_back()
+    }
+
+    /// Returns the entry of the greatest key up to this one, in the same way.
+    pub fn at_most(&mut self, key: u64) -> Option<(u64, u64)> {
+        self.range(..=key).next_back()
+    }
+
     /// Counts the entries whose keys are in the range, by a scan of them: [`LiveRange`] says what it sees of a key that changes meanwhile.
     #[track_caller]
     pub fn count(&mut self, range: impl RangeBounds<u64>) -> usize {
@@ -426,6 +461,28 @@ impl<'map> Session<'map> {
     /// ```
     pub fn pop_first(&mut self) -> Result<Option<(u64, u64)>, Error> {
         while let Some((key, pointer)) = self.first() {
+            if self.compare_remove(key, pointer)?.changed() {
+                return Ok(Some((key, pointer)));
+            }
+        }
+        Ok(None)
+    }
+
+    /// Takes the entry of the greatest key away, in the same way: a greater key that another session inserts meanwhile may be passed over.
+    ///
+    /// ```
+    /// use blink::{Index, Map, Room};
+    ///
+    /// let index = Index::from_entries(8, [(1, 10), (3, 30)])?;
+    /// let map = Map::open(&index, Room { pages: 22, rows: 44, sessions: 1 })?;
+    /// let mut session = map.session()?;
+    /// assert_eq!(session.pop_last()?, Some((3, 30)));
+    /// assert_eq!(session.pop_last()?, Some((1, 10)));
+    /// assert_eq!(session.pop_last()?, None);
+    /// # Ok::<(), blink::Error>(())
+    /// ```
+    pub fn pop_last(&mut self) -> Result<Option<(u64, u64)>, Error> {
+        while let Some((key, pointer)) = self.last() {
             if self.compare_remove(key, pointer)?.changed() {
                 return Ok(Some((key, pointer)));
             }
@@ -479,6 +536,7 @@ impl<'map> Session<'map> {
     /// let mut session = map.session()?;
     /// session.insert(4, 40)?;
     /// assert_eq!(session.range(2..5).collect::<Vec<_>>(), [(3, 30), (4, 40)]);
+    /// assert_eq!(session.range(2..5).rev().collect::<Vec<_>>(), [(4, 40), (3, 30)]);
     /// # Ok::<(), blink::Error>(())
     /// ```
     ///
@@ -500,7 +558,7 @@ impl<'map> Session<'map> {
     /// ```
     #[track_caller]
     pub fn range(&mut self, range: impl RangeBounds<u64>) -> LiveRange<'_> {
-        LiveRange::new(&mut self.handle, sys::blink_session_scan, &range)
+        LiveRange::new(&mut self.handle, sys::blink_session_scan, sys::blink_session_scan_back, &range)
     }
 
     /// Returns the entries whose keys are in the range, in ascending order, as all of them were at one time; `None`, if some leaf of

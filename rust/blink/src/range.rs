@@ -136,38 +136,64 @@ pub(crate) fn snapshot(handle: &mut Handle, call: SnapshotCall, range: &impl Ran
     }
 }
 
-/// The entries of a table or a map whose keys are in a range, in ascending order, while other threads change them.
+/// The entries of a table or a map whose keys are in a range, in ascending order, while other threads change them; and from its other end
+/// in descending order.
 ///
 /// It reads the tree's leaves from the left, each at one time: what it says of a key is what the changes up to some time leave of
-/// it, and of a greater key those up to that time or a later one. It takes the entries out in parts: 16 first, which takes no memory,
-/// then twice as many each time, up to 256, as long as memory for them is given. A part is read when it is asked for.
+/// it, and of a greater key those up to that time or a later one. From its other end it reads the leaves from the right: what it says of
+/// a key is what the changes up to some time leave of it, and of a smaller key those up to that time or a later one. Who reads from both
+/// ends gets each key from one of them alone: no entry comes twice, and none is left out that was there throughout.
+///
+/// From each end it takes the entries out in parts: 16 first, which takes no memory, then twice as many each time, up to 256, as long as
+/// memory for them is given. A part is read when it is asked for. Backwards each leaf takes a descent of its own.
 #[must_use = "a range is read as it is iterated over"]
 pub struct LiveRange<'a> {
     handle: &'a mut Handle,
     scan: ScanCall,
-    // The keys that are still to be asked for.
+    scan_back: ScanCall,
+    // The keys that are still to be asked for, between those of the two parts.
     range: Option<(u64, u64)>,
-    parts: Parts,
+    front: Parts,
+    // It is there once the range has been read from its end.
+    back: Option<Parts>,
 }
 
 impl<'a> LiveRange<'a> {
-    // The handle is full, and of what the call takes; no operation is under way.
+    // The handle is full, and of what the calls take; no operation is under way.
     #[track_caller]
-    pub(crate) fn new(handle: &'a mut Handle, scan: ScanCall, range: &impl RangeBounds<u64>) -> LiveRange<'a> {
-        LiveRange { handle, scan, range: first_and_last(range), parts: Parts::new() }
+    pub(crate) fn new(
+        handle: &'a mut Handle,
+        scan: ScanCall,
+        scan_back: ScanCall,
+        range: &impl RangeBounds<u64>,
+    ) -> LiveRange<'a> {
+        LiveRange { handle, scan, scan_back, range: first_and_last(range), front: Parts::new(), back: None }
     }
 
     fn refill(&mut self) {
         let Some((lo, hi)) = self.range else { return };
-        let places = self.parts.places();
-        let mut scanned = RawScanned { filled: 0, more: 0, next: 0 };
-        // SAFETY: the handle is full and borrowed for writing; the array has that many elements.
-        let code = unsafe { (self.scan)(self.handle, lo, hi, places.as_mut_ptr(), places.len(), &mut scanned) };
-        // No operation is under way, and a pass wasn't given back, by the types; nothing else is refused.
-        assert_eq!(code, 0);
-        self.parts.fill(scanned.filled as usize);
-        self.range = (scanned.more == 1).then_some((scanned.next, hi));
+        let next = part(self.handle, self.scan, (lo, hi), &mut self.front);
+        self.range = next.map(|next| (next, hi));
     }
+
+    fn refill_back(&mut self) {
+        let Some((lo, hi)) = self.range else { return };
+        let next = part(self.handle, self.scan_back, (lo, hi), self.back.get_or_insert_with(Parts::new));
+        self.range = next.map(|next| (lo, next));
+    }
+}
+
+// Takes another part of the entries of a range of keys out, and returns the key from which the next one goes on, if there is more. The
+// handle is full, and of what the call takes; no operation is under way.
+fn part(handle: &mut Handle, call: ScanCall, (lo, hi): (u64, u64), parts: &mut Parts) -> Option<u64> {
+    let places = parts.places();
+    let mut scanned = RawScanned { filled: 0, more: 0, next: 0 };
+    // SAFETY: the handle is full and borrowed for writing; the array has that many elements.
+    let code = unsafe { call(handle, lo, hi, places.as_mut_ptr(), places.len(), &mut scanned) };
+    // No operation is under way, and a pass wasn't given back, by the types; nothing else is refused.
+    assert_eq!(code, 0);
+    parts.fill(scanned.filled as usize);
+    (scanned.more == 1).then_some(scanned.next)
 }
 
 impl Iterator for LiveRange<'_> {
@@ -176,16 +202,27 @@ impl Iterator for LiveRange<'_> {
     // Called once an entry, from another crate.
     #[inline]
     fn next(&mut self) -> Option<(u64, u64)> {
-        if self.parts.is_empty() {
+        if self.front.is_empty() {
             self.refill();
         }
-        self.parts.take()
+        // What the range's end has taken out and not given comes after all others.
+        self.front.take().or_else(|| self.back.as_mut()?.take_last())
     }
 
     // At least what was taken out is still to come, and no more once nothing is left to be asked for.
     fn size_hint(&self) -> (usize, Option<usize>) {
-        let taken = self.parts.len();
+        let taken = self.front.len() + self.back.as_ref().map_or(0, Parts::len);
         (taken, self.range.is_none().then_some(taken))
+    }
+}
+
+impl DoubleEndedIterator for LiveRange<'_> {
+    #[inline]
+    fn next_back(&mut self) -> Option<(u64, u64)> {
+        if self.back.as_ref().map_or(true, Parts::is_empty) {
+            self.refill_back();
+        }
+        self.back.as_mut().and_then(Parts::take).or_else(|| self.front.take_last())
     }
 }
 

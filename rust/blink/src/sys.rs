@@ -88,7 +88,7 @@ pub(crate) struct RawTaken {
 /// A snapshot by a pass or a session.
 pub(crate) type SnapshotCall = unsafe extern "C" fn(*mut Handle, u64, u64, u32, *mut RawEntry, usize, *mut RawTaken) -> Code;
 
-/// A scan by a pass or a session.
+/// A scan by a pass or a session, in either direction.
 pub(crate) type ScanCall =
     unsafe extern "C" fn(*mut Handle, u64, u64, *mut RawEntry, usize, *mut RawScanned) -> Code;
 
@@ -266,6 +266,14 @@ extern "C" {
         places: usize,
         scanned: *mut RawScanned,
     ) -> Code;
+    pub(crate) fn blink_pass_scan_back(
+        pass: *mut Handle,
+        lo: u64,
+        hi: u64,
+        entries: *mut RawEntry,
+        places: usize,
+        scanned: *mut RawScanned,
+    ) -> Code;
     pub(crate) fn blink_pass_snapshot(
         pass: *mut Handle,
         lo: u64,
@@ -307,6 +315,14 @@ extern "C" {
 
     pub(crate) fn blink_session_find(session: *mut Handle, key: u64, answer: *mut RawAnswer) -> Code;
     pub(crate) fn blink_session_scan(
+        session: *mut Handle,
+        lo: u64,
+        hi: u64,
+        entries: *mut RawEntry,
+        places: usize,
+        scanned: *mut RawScanned,
+    ) -> Code;
+    pub(crate) fn blink_session_scan_back(
         session: *mut Handle,
         lo: u64,
         hi: u64,

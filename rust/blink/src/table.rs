@@ -205,11 +205,12 @@ impl Pass {
     /// let mut pass = table.deal(&[4], 1, 0)?;
     /// pass.insert(4, 40)?;
     /// assert_eq!(pass.range(3..).collect::<Vec<_>>(), [(3, 30), (4, 40), (5, 50)]);
+    /// assert_eq!(pass.range(..4).next_back(), Some((3, 30)));
     /// # Ok::<(), blink::Error>(())
     /// ```
     #[track_caller]
     pub fn range(&mut self, range: impl RangeBounds<u64>) -> LiveRange<'_> {
-        LiveRange::new(self.handle.get_mut(), sys::blink_pass_scan, &range)
+        LiveRange::new(self.handle.get_mut(), sys::blink_pass_scan, sys::blink_pass_scan_back, &range)
     }
 
     /// Returns the entries whose keys are in the range, whosever they are, in ascending order, as all of them were at one time; `None`, if some leaf of

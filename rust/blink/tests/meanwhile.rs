@@ -7,6 +7,7 @@ mod stepped;
 use blink::{Answer, Index, Map, Op, Room, Session};
 use std::collections::BTreeMap;
 use std::fmt::Debug;
+use std::ops::Bound;
 use stepped::by_instruction;
 
 // Twelve keys in three full leaves below a root that has room for one more.
@@ -174,6 +175,24 @@ fn a_scan_that_is_stopped_anywhere_goes_on_where_it_was() {
 
 fn scan_into(session: &mut Session, lo: u64, hi: u64, most: usize) -> Vec<(u64, u64)> {
     session.range(lo..=hi).take(most).collect()
+}
+
+// The same of a backward scan, of which the greater keys were read before, and the others after.
+fn is_scan_back(given: &[(u64, u64)], (lo, hi): (u64, u64), most: usize, before: &Plain, after: &Plain) -> bool {
+    let turns = before.keys().chain(after.keys()).copied().chain([0, u64::MAX]);
+    turns.into_iter().any(|turn| {
+        let greater = before.range((Bound::Excluded(turn), Bound::Unbounded)).rev();
+        let all = greater.chain(after.range(..=turn).rev()).filter(|(key, _)| (lo..=hi).contains(*key));
+        all.take(most).eq(given.iter().map(|(key, pointer)| (key, pointer)))
+    })
+}
+
+#[test]
+fn a_backward_scan_that_is_stopped_anywhere_goes_on_where_it_was() {
+    for (lo, hi, most) in [(0, u64::MAX, usize::MAX), (45, 95, usize::MAX), (0, 89, 3), (58, 78, 4)] {
+        let scan = |session: &mut Session| session.range(lo..=hi).rev().take(most).collect::<Vec<_>>();
+        stops_anywhere(61, scan, |given, before, after| is_scan_back(given, (lo, hi), most, before, after));
+    }
 }
 
 #[test]

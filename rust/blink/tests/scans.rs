@@ -4,7 +4,8 @@
 //! is the key's absence. The thread notes a version as begun before the call that makes it, and as made after the call. So a scan may
 //! report of a key what a version says that was begun before the scan ended, and not overtaken by one that was made before the scan began.
 //! Keys have mates: a thread makes a version of the greater key first, and then the same of the lesser. What a scan says of a greater key
-//! is as new as what it says of a lesser one or newer, so it never reports a newer version of the lesser.
+//! is as new as what it says of a lesser one or newer, so it never reports a newer version of the lesser. For backward scans it is the
+//! other way round.
 
 use blink::{Answer, Index, Map, Room, Session};
 use std::sync::atomic::{AtomicBool, AtomicU64, Ordering::SeqCst};
@@ -15,6 +16,13 @@ const SCANNERS: usize = 2;
 // The keys of each writer, half of which are mates of the others.
 const KEYS_EACH: usize = 24;
 const KEYS: usize = WRITERS * KEYS_EACH;
+
+/// Which way the scans go.
+#[derive(Clone, Copy, PartialEq)]
+enum Direction {
+    Up,
+    Down,
+}
 
 /// How far each key's versions have come.
 struct Versions {
@@ -54,10 +62,17 @@ fn allowed(reported: Option<u64>, made: u64, begun: u64) -> Option<u64> {
 }
 
 // Scans once, and compares. Returns how many keys the report says something of.
-fn scan_once(session: &mut Session, versions: &Versions, lo: usize, hi: usize) -> u64 {
+fn scan_once(session: &mut Session, versions: &Versions, direction: Direction, lo: usize, hi: usize) -> u64 {
     let made = now(&versions.made);
-    let entries: Vec<_> = session.range(lo as u64..=hi as u64).collect();
+    let range = session.range(lo as u64..=hi as u64);
+    let mut entries: Vec<_> = match direction {
+        Direction::Up => range.collect(),
+        Direction::Down => range.rev().collect(),
+    };
     let begun = now(&versions.begun);
+    if direction == Direction::Down {
+        entries.reverse();
+    }
     assert!(entries.windows(2).all(|two| two[0].0 < two[1].0), "{entries:?}");
     assert!(entries.iter().all(|(key, _)| (lo as u64..=hi as u64).contains(key)), "{entries:?}");
     let mut reported = vec![None; KEYS];
@@ -67,16 +82,20 @@ fn scan_once(session: &mut Session, versions: &Versions, lo: usize, hi: usize) -
         assert!(version.is_some(), "key {key}: {:?}, made {}, begun {}", reported[key], made[key], begun[key]);
         let mate = key + KEYS / 2;
         if mate <= hi {
-            // the lesser key's version is at least that which it shows, and its mate's is at least that
-            if let (Some(lesser), Some(greater)) = (reported[key], allowed(reported[mate], made[mate], begun[mate])) {
-                assert!(lesser <= greater, "key {key} at {lesser}, and its mate at {greater}");
+            // the version of the key that is read first is at least that which it shows, and its mate's is at least that
+            let (first, then) = match direction {
+                Direction::Up => (key, mate),
+                Direction::Down => (mate, key),
+            };
+            if let (Some(old), Some(new)) = (reported[first], allowed(reported[then], made[then], begun[then])) {
+                assert!(old <= new, "key {first} at {old}, and its mate at {new}");
             }
         }
     }
     (hi - lo + 1) as u64
 }
 
-fn compare(fan: u8, reports: u64) {
+fn compare(fan: u8, reports: u64, direction: Direction) {
     let room = Room { pages: 200_000, rows: 1_000_000, sessions: (WRITERS + SCANNERS) as u32 };
     let map = Map::open(&Index::new(fan).unwrap(), room).unwrap();
     let versions = Versions::new();
@@ -92,8 +111,12 @@ fn compare(fan: u8, reports: u64) {
                         return;
                     }
                     let key = writer + WRITERS * (turn * 7 % (KEYS_EACH / 2));
-                    versions.next(&mut session, key + KEYS / 2);
-                    versions.next(&mut session, key);
+                    let (first, then) = match direction {
+                        Direction::Up => (key + KEYS / 2, key),
+                        Direction::Down => (key, key + KEYS / 2),
+                    };
+                    versions.next(&mut session, first);
+                    versions.next(&mut session, then);
                 }
             });
         }
@@ -106,7 +129,7 @@ fn compare(fan: u8, reports: u64) {
                     while told < reports / SCANNERS as u64 {
                         // ranges of all lengths: the whole, a part in the middle, and one key
                         let (lo, hi) = [(0, KEYS - 1), (turn * 5 % KEYS, KEYS - 1), (turn % KEYS, turn % KEYS)][turn % 3];
-                        told += scan_once(&mut session, versions, lo, hi);
+                        told += scan_once(&mut session, versions, direction, lo, hi);
                         turn += 1;
                     }
                 })
@@ -124,12 +147,22 @@ fn compare(fan: u8, reports: u64) {
 
 #[test]
 fn a_million_reports_by_pages_of_four() {
-    compare(4, 1_000_000);
+    compare(4, 1_000_000, Direction::Up);
+}
+
+#[test]
+fn a_million_backward_reports_by_pages_of_four() {
+    compare(4, 1_000_000, Direction::Down);
 }
 
 #[test]
 fn reports_by_pages_of_32() {
-    compare(32, 500_000);
+    compare(32, 500_000, Direction::Up);
+}
+
+#[test]
+fn backward_reports_by_pages_of_32() {
+    compare(32, 500_000, Direction::Down);
 }
 
 #[test]

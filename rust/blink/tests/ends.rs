@@ -1,0 +1,122 @@
+//! What a session and a pass read from either end, beside a `BTreeMap` by operations that look like chance.
+
+use blink::{Index, Map, Pass, Room, Session, Table};
+use std::collections::BTreeMap;
+use std::ops::RangeInclusive;
+
+type Plain = BTreeMap<u64, u64>;
+
+// Numbers that look like chance, always the same (xorshift).
+struct Draw(u64);
+
+impl Draw {
+    fn below(&mut self, end: u64) -> u64 {
+        self.0 ^= self.0 << 13;
+        self.0 ^= self.0 >> 7;
+        self.0 ^= self.0 << 17;
+        self.0 % end
+    }
+
+    fn range(&mut self, end: u64) -> RangeInclusive<u64> {
+        let (one, other) = (self.below(end), self.below(end));
+        one.min(other)..=one.max(other)
+    }
+}
+
+fn pair((key, pointer): (&u64, &u64)) -> (u64, u64) {
+    (*key, *pointer)
+}
+
+// Takes entries from either end of a range, as the draw says, as many as there are: each comes once, the same as from the plain map.
+fn both_ends(mut given: impl DoubleEndedIterator<Item = (u64, u64)>, plain: &Plain, range: RangeInclusive<u64>, draw: &mut Draw) {
+    let mut expected = plain.range(range).map(pair);
+    // mostly from one end, so that parts of several lengths meet
+    let from_front = draw.below(10);
+    loop {
+        let (one, other) = match draw.below(10) < from_front {
+            true => (given.next(), expected.next()),
+            false => (given.next_back(), expected.next_back()),
+        };
+        assert_eq!(one, other);
+        if one.is_none() {
+            assert_eq!((given.next(), given.next_back()), (None, None));
+            return;
+        }
+    }
+}
+
+const KEYS: u64 = 700;
+
+// Changes a key, in a way that leaves many leaves empty at times.
+fn change(session: &mut Session, plain: &mut Plain, draw: &mut Draw, turn: u64) {
+    let key = draw.below(KEYS);
+    if draw.below(10) < if turn / 3_000 % 2 == 0 { 8 } else { 2 } {
+        assert_eq!(session.put(key, turn), Ok(plain.insert(key, turn)));
+    } else {
+        assert_eq!(session.remove(key).map(|answer| answer.pointer()), Ok(plain.remove(&key)));
+    }
+}
+
+fn ends(session: &mut Session, plain: &Plain, key: u64) {
+    assert_eq!(session.first(), plain.iter().next().map(pair));
+    assert_eq!(session.last(), plain.iter().next_back().map(pair));
+    assert_eq!(session.prev(key), plain.range(..key).next_back().map(pair));
+    assert_eq!(session.next(key), plain.range(key + 1..).next().map(pair));
+    assert_eq!(session.at_most(key), plain.range(..=key).next_back().map(pair));
+    assert_eq!(session.at_least(key), plain.range(key..).next().map(pair));
+}
+
+#[test]
+fn a_session_reads_from_either_end_as_a_btree_map() {
+    let map = Map::open(&Index::new(4).unwrap(), Room { pages: 20_000, rows: 40_000, sessions: 1 }).unwrap();
+    let (mut session, mut plain, mut draw) = (map.session().unwrap(), Plain::new(), Draw(88_172_645_463_325_252));
+    for turn in 0..24_000 {
+        change(&mut session, &mut plain, &mut draw, turn);
+        ends(&mut session, &plain, draw.below(KEYS));
+        if turn % 7 == 0 {
+            let range = draw.range(KEYS);
+            both_ends(session.range(range.clone()), &plain, range, &mut draw);
+        }
+        if turn % 501 == 0 {
+            assert_eq!(session.pop_last(), Ok(plain.pop_last()));
+            assert_eq!(session.pop_first(), Ok(plain.pop_first()));
+        }
+    }
+    assert!(session.range(..).rev().eq(plain.iter().rev().map(pair)));
+}
+
+#[test]
+fn the_greatest_and_the_least_key_are_at_the_ends() {
+    let index = Index::from_entries(4, [(0, 1), (u64::MAX, 2)]).unwrap();
+    let map = Map::open(&index, Room { pages: 0, rows: 0, sessions: 1 }).unwrap();
+    let mut session = map.session().unwrap();
+    assert_eq!((session.first(), session.last()), (Some((0, 1)), Some((u64::MAX, 2))));
+    assert_eq!((session.prev(0), session.next(u64::MAX)), (None, None));
+    assert_eq!((session.prev(u64::MAX), session.next(0)), (Some((0, 1)), Some((u64::MAX, 2))));
+    assert!(session.range(..).rev().eq([(u64::MAX, 2), (0, 1)]));
+}
+
+fn pass_changes(pass: &mut Pass, plain: &mut Plain, draw: &mut Draw, turn: u64) {
+    let key = draw.below(KEYS);
+    if draw.below(2) == 0 {
+        if pass.insert(key, turn).unwrap().changed() {
+            plain.insert(key, turn);
+        }
+    } else {
+        assert_eq!(pass.remove(key).unwrap().pointer(), plain.remove(&key));
+    }
+}
+
+#[test]
+fn a_pass_reads_from_either_end_as_a_btree_map() {
+    let index: Index = Index::from_sorted(4, (0..KEYS).map(|key| (key, key))).unwrap();
+    let mut table = Table::open(&index, 2_000, 2_000).unwrap();
+    let mut pass = table.deal(&(0..KEYS).collect::<Vec<_>>(), 2_000, 2_000).unwrap();
+    let (mut plain, mut draw): (Plain, Draw) = ((0..KEYS).map(|key| (key, key)).collect(), Draw(88_172_645_463_325_252));
+    for turn in 0..2_000 {
+        pass_changes(&mut pass, &mut plain, &mut draw, turn);
+        let range = draw.range(KEYS);
+        both_ends(pass.range(range.clone()), &plain, range, &mut draw);
+    }
+    assert!(pass.range(..).rev().eq(plain.iter().rev().map(pair)));
+}
