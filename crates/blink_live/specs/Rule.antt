@@ -8,7 +8,7 @@ use Rattle.atomic_table.specs.Table.{State}
 use Rattle.blink_batch.specs.declared.Entry.{Entry}
 use Rattle.blink_batch.specs.{pointer_of}
 use Rattle.blink_page.specs.{IsPageNumber, PlainPage}
-use Rattle.blink_rows.specs.{AreBounded, page_words, prime_words, row_in}
+use Rattle.blink_rows.specs.{AreBounded, PlainCounts, page_words, prime_words, row_in}
 use Rattle.blink_rows.specs.declared.span.Span.{Span}
 use Rattle.blink_machine.specs.{PlainMachine, descent_bound, IsMapAt}
 use Rattle.blink_machine.specs.TreeState.{TreeState}
@@ -25,7 +25,7 @@ use Rattle.blink_live.specs.Accounts.{AreAccounts}
 use Rattle.blink_live.specs.Looks.{HasLooked}
 use Rattle.blink_live.specs.Reuse.{IsReuseSafe, IsWithin}
 use Rattle.blink_live.specs.Views.{IsCommon, IsOwned, latch_number_by, span}
-use Rattle.blink_live.specs.Words.{word_count, place_word, pool_page, pool_row, IsRowNumber, RowBegins, IsVersion}
+use Rattle.blink_live.specs.Words.{word_count, place_word, pool_page, pool_row, IsRowNumber, RowBegins, IsVersion, named_row}
 
 -- ---- owners: 0 for nobody, and else a seat's number plus 1
 
@@ -40,17 +40,21 @@ pub record Owners : Type 0 where
   pub latch_number : ℕ → ℕ
   -- of the places of sessions
   pub place : ℕ → ℕ
+  -- of published rows: the number of words to which nobody stores any more, and the page whose word named the row last
+  pub fixed : ℕ → ℕ
+  pub named_by : ℕ → ℕ
 
--- the row is published: nobody stores to it any more
+-- the row is published: nobody stores to its fixed words any more
 abbrev pub IsPublished : Plan → Owners → ℕ → Type 0
 IsPublished plan owners row = IsRowNumber plan.counts row × (owners.row row ≡ 0)
 
 -- ---- page words and latch words
 
--- the word names a row: the row is published, and begins with these words
+-- the word names a row: the row is published, and begins with these words, which are just those that are fixed
 pub record Names (plan : Plan) (owners : Owners) (words : List ℕ) (word : ℕ) (content : List ℕ) : Type 0 where
   pub published : IsPublished plan owners (row_in word)
   pub begins : RowBegins plan.counts words (row_in word) content
+  pub fixed : owners.fixed (row_in word) ≡ length content
 
 -- the word names a row with the page: the row begins with a base, and behind it stand the records that make the page of it
 pub record NamesPage (plan : Plan) (owners : Owners) (words : List ℕ) (word : ℕ) (page : PlainPage) : Type 0 where
@@ -58,12 +62,17 @@ pub record NamesPage (plan : Plan) (owners : Owners) (words : List ℕ) (word : 
   pub behind : List ℕ
   pub published : IsPublished plan owners (row_in word)
   pub begins : RowBegins plan.counts words (row_in word) (page_words base ++ behind)
+  pub fixed : owners.fixed (row_in word) ≡ length (page_words base ++ behind)
   pub version : IsVersion word base behind page
 
 -- the page word is 0 if the page doesn't exist; else it names a row with the page
 abbrev pub PageWordIs : Plan → Owners → List ℕ → ℕ → Option PlainPage → Type 0
 PageWordIs plan owners words word None = word ≡ 0
 PageWordIs plan owners words word (Some page) = NamesPage plan owners words word page
+
+-- a row is named by the word of one page
+abbrev pub AreNamedBy : PlainCounts → (ℕ → ℕ) → List ℕ → Type 0
+AreNamedBy counts named_by words = (number : ℕ) → number < counts.numbers → 1 ≤ named_row words number → named_by (named_row words number) ≡ number
 
 -- 0, or the latch number of the seat that holds the latch
 abbrev pub latch_word : Owners → Option ℕ → ℕ
@@ -72,10 +81,10 @@ latch_word owners (Some seat) = owners.latch_number seat
 
 -- ---- what a seat knows
 
--- the row that the seat reads is published, and begins with these words; behind them stand those of the records
+-- the row that the seat reads is published, and begins with these words; behind them stand those of the records. All are fixed
 abbrev pub ReadsRow : Plan → Owners → List ℕ → Option (ℕ × List ℕ) → List ℕ → Type 0
 ReadsRow plan owners words None behind = ⊤
-ReadsRow plan owners words (Some (row, content)) behind = IsPublished plan owners row × RowBegins plan.counts words row (content ++ behind)
+ReadsRow plan owners words (Some (row, content)) behind = IsPublished plan owners row × RowBegins plan.counts words row (content ++ behind) × (length (content ++ behind) ≤ owners.fixed row)
 
 -- and so are the rows that it has noted
 abbrev pub Reads : Plan → Owners → List ℕ → TreeState → View → Type 0
@@ -210,6 +219,7 @@ pub record IsTableAt (plan : Plan) (s : State ℕ View) (tree_state : TreeState)
   pub width : length s.words ≡ word_count plan.counts + 8 * plan.places
   pub prime : Names plan owners s.words (slice_index s.words 0) (prime_words tree_state.prime)
   pub pages : (number : ℕ) → 1 ≤ number → number < plan.counts.numbers → PageWordIs plan owners s.words (slice_index s.words number) (tree_state.pages number)
+  pub named_by : AreNamedBy plan.counts owners.named_by s.words
   pub no_other_page : (number : ℕ) → plan.counts.numbers ≤ number → tree_state.pages number ≡ None
   pub latches : (number : ℕ) → number < plan.counts.numbers → slice_index s.words (plan.counts.numbers + number) ≡ latch_word owners (tree_state.holder number)
   pub no_other_latch : (number : ℕ) → plan.counts.numbers ≤ number → tree_state.holder number ≡ None

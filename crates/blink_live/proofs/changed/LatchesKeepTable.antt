@@ -33,6 +33,7 @@ use Rattle.blink_live.proofs.table.NextPageIsThere.{next_page_is_there}
 use Rattle.blink_live.proofs.reuse.ReuseStaysSafe.{hand_stays, reuse_stays, same_reads}
 use Rattle.blink_live.proofs.table.AccountsStay.{accounts_stay}
 use Rattle.blink_live.proofs.table.OthersKnowTheSame.{LeavesOthers, RowStays, page_word_still, seat_reads_still}
+use Rattle.blink_live.proofs.table.RowsAreNamed.{same_names}
 use Rattle.blink_live.proofs.table.StoresKeepTable.{row_stays, call_kept, IsStored, prime_still, store_keeps}
 use Rattle.blink_live.proofs.table.SparesOfSeats.{spare_still}
 
@@ -68,6 +69,7 @@ module _ (plan : Plan) (s : State ℕ View) (tree_state : TreeState) (h : IsTabl
     machines = λ seat other. put_else tree_state.machines id seat (goes_on after after.state) other;
     ways = λ seat m other is. refl;
     rows = λ row least most apart shared. (refl, row_stays plan s.words (plan.counts.numbers + number) x row (omega (arith, in_range)));
+    fixed = λ row unowned. refl;
     numbers = λ n apart shared. (refl, λ free. free);
     keys = λ owned key apart. (refl, refl, refl);
     nobodys = h.nobodys;
@@ -117,6 +119,7 @@ module _ (plan : Plan) (s : State ℕ View) (tree_state : TreeState) (h : IsTabl
             let other : slice_index words n ≡ slice_index s.words n = get_or-set_other s.words place n x 0 (λ e. omega (arith, e, below)) in
             subst (λ (word : ℕ). PageWordIs plan h.owners words word (tree_state.pages n)) (sym other)
             (page_word_still plan s tree_state then h id (subst (IsInRole plan h.owners h.log id v) role (h.views id v at).in_role).0 words h.owners h.log leaves (slice_index s.words n) (tree_state.pages n) (h.pages n least below));
+        named_by = same_names plan.counts h.owners.named_by s.words words (λ n few. get_or-set_other s.words place n x 0 (λ e. omega (arith, e, few))) h.named_by;
         no_other_page = h.no_other_page;
         no_other_latch = λ n beyond. put_else tree_state.holder number n holder (λ same. omega (arith, same, beyond, in_range)) ∙ h.no_other_latch n beyond;
         latches = λ n below. dite (ℕ_discrete n number)

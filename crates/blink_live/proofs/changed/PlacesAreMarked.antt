@@ -19,6 +19,7 @@ use Rattle.blink_live.proofs.reuse.ReuseStaysSafe.{hand_stays, holds_nothing, re
 use Rattle.blink_live.proofs.table.LooksStay.{nothing_noted}
 use Rattle.blink_live.proofs.table.AccountsStay.{accounts_stay, authors_of_prefix}
 use Rattle.blink_live.proofs.table.OthersKnowTheSame.{LeavesOthers, RowStays, page_word_still}
+use Rattle.blink_live.proofs.table.RowsAreNamed.{same_names}
 use Rattle.blink_live.proofs.table.StoresKeepTable.{call_kept, prime_still, store_keeps}
 use Rattle.blink_live.proofs.table.SparesOfSeats.{spare_still}
 
@@ -57,6 +58,7 @@ module _ (plan : Plan) (s : State ℕ View) (tree_state : TreeState) (h : IsTabl
     machines = λ seat other. refl;
     ways = λ seat m other is. refl;
     rows = λ row least most apart shared. (refl, stays row least most);
+    fixed = λ row unowned. refl;
     numbers = λ n apart shared. (refl, λ free. free);
     keys = λ owned key apart. (refl, refl, refl);
     nobodys = h.nobodys;
@@ -102,6 +104,7 @@ module _ (plan : Plan) (s : State ℕ View) (tree_state : TreeState) (h : IsTabl
     prime = prime_still plan s tree_state tree_state h id kept.0 words h.owners h.log leaves (before 0 (omega (arith, some_number))) refl;
     pages = λ n least below. subst (λ (word : ℕ). PageWordIs plan h.owners words word (tree_state.pages n)) (sym (before n (omega (arith, below))))
         (page_word_still plan s tree_state tree_state h id kept.0 words h.owners h.log leaves (slice_index s.words n) (tree_state.pages n) (h.pages n least below));
+    named_by = same_names plan.counts h.owners.named_by s.words words (λ n few. before n (omega (arith, few))) h.named_by;
     no_other_page = h.no_other_page;
     no_other_latch = h.no_other_latch;
     latches = λ n below. before (plan.counts.numbers + n) (omega (arith, below)) ∙ h.latches n below;

@@ -1,5 +1,5 @@
 -- A page word that names a row of one's own is the tree's write of a page, old or new, or of the prime block, and keeps the rule.
-use Rattle.std.proofs.Common.{◌≡◌, ◌≢◌, ◌⊎◌, inl, inr, ⊎_elim, ℕ, suc, ◌<◌, ◌≤◌, Option, Some, None, List, [], ◌++◌, set, refl, sym, ap, ◌∙◌, subst, append_assoc, arith}
+use Rattle.std.proofs.Common.{◌≡◌, ◌≢◌, ◌⊎◌, inl, inr, ⊎_elim, ℕ, suc, ◌<◌, ◌≤◌, Option, Some, None, List, [], ◌++◌, set, refl, sym, ap, ◌∙◌, subst, append_assoc, arith, length}
 use Rattle.std.specs.Prelude.{Contains, IsSome, slice_index}
 use mathlib.Core.Option.{some, none}
 use mathlib.Core.List.{IsPrefix, append-nil}
@@ -65,7 +65,7 @@ module _ (plan : Plan) (s : State ℕ View) (tree_state then : TreeState) (h : I
     (at : get_elem? s.views id ≡ some me.0) (role : me.0.role ≡ Pass) (under : (k : PlainMachine) × (me.0.operation ≡ Some k)) (its : IsItsOperation tree_state id m) (fits : FitsWords m.op) (stepped : Steps tree_state id m (Moved kind) after_it then)
     (tree : IsStepOfTree plan s tree_state then h id number (descent_bound then.pages after_it) me.0 after_it content pages stock at role)
     (in_range : number < plan.counts.numbers) (room : me.0.call.rows.next < me.0.call.rows.stop) (is_row : BeginWith me.0.call.staged content) (may : MayChange me.0 (key_of m.op))
-    (reuse : (w : View) → w.reads ≡ me.0.reads → w.role ≡ me.0.role → w.busy ≡ me.0.busy → w.place ≡ me.0.place → w.look.leaves ≡ me.0.look.leaves → w.stock ≡ stock → w.rows ≡ me.0.rows → w.call.rows ≡ span (suc me.0.call.rows.next) me.0.call.rows.stop → IsCommon plan → IsReuseSafe plan (gives_row h.owners me.0.call.rows.next).row (set s.words number me.0.call.rows.next) (set s.views id w)) where
+    (reuse : (w : View) → w.reads ≡ me.0.reads → w.role ≡ me.0.role → w.busy ≡ me.0.busy → w.place ≡ me.0.place → w.look.leaves ≡ me.0.look.leaves → w.stock ≡ stock → w.rows ≡ me.0.rows → w.call.rows ≡ span (suc me.0.call.rows.next) me.0.call.rows.stop → IsCommon plan → IsReuseSafe plan (gives_row h.owners me.0.call.rows.next number (length content)).row (set s.words number me.0.call.rows.next) (set s.views id w)) where
   known : Knows plan h.owners s.words tree_state h.log id me.0
   known = h.views id me.0 at
 
@@ -96,7 +96,7 @@ module _ (plan : Plan) (s : State ℕ View) (tree_state then : TreeState) (h : I
     pub keys : share.keys ≡ me.0.share.keys
     pub changes : share.changes ≡ me.0.share.changes ++ its_changes
     pub own : Contains me.0.share.keys (key_of m.op) → (kept_before ≡ pointer_of me.0.share.entries (key_of m.op)) × (share ≡ changed_by me.0.place m.op me.0.share)
-    pub is_share : IsShare plan (gives_row h.owners me.0.call.rows.next) (h.log ++ its_changes) (suc id) share
+    pub is_share : IsShare plan (gives_row h.owners me.0.call.rows.next number (length content)) (h.log ++ its_changes) (suc id) share
 
   own_share_then : Contains me.0.share.keys (key_of m.op) → IsShareThen (changed_by me.0.place m.op me.0.share)
   own_share_then mine =
@@ -168,8 +168,8 @@ module _ (plan : Plan) (s : State ℕ View) (tree_state then : TreeState) (h : I
   }
 
   -- of its own keys the seat knows what its share says of them
-  own_known : (made : List Change) (share : Share) → IsShare plan (gives_row h.owners me.0.call.rows.next) (h.log ++ made) (suc id) share → KnowsItsOwn (publishes me.0 after_it (descent_bound then.pages after_it) pages share (h.log ++ made) stock)
-  own_known made share is = share_is_known plan (gives_row h.owners me.0.call.rows.next) (suc id) (publishes me.0 after_it (descent_bound then.pages after_it) pages share (h.log ++ made) stock) (h.views id me.0 at).same_plan is
+  own_known : (made : List Change) (share : Share) → IsShare plan (gives_row h.owners me.0.call.rows.next number (length content)) (h.log ++ made) (suc id) share → KnowsItsOwn (publishes me.0 after_it (descent_bound then.pages after_it) pages share (h.log ++ made) stock)
+  own_known made share is = share_is_known plan (gives_row h.owners me.0.call.rows.next number (length content)) (suc id) (publishes me.0 after_it (descent_bound then.pages after_it) pages share (h.log ++ made) stock) (h.views id me.0 at).same_plan is
 
   -- no seat has seen more
   is_longest : (made : List Change) (share : Share) → IsLongest (set s.views id (publishes me.0 after_it (descent_bound then.pages after_it) pages share (h.log ++ made) stock)) (h.log ++ made)

@@ -1,5 +1,5 @@
 -- A word that names a row of one's own publishes it: where the tree takes the step, the rule is kept.
-use Rattle.std.proofs.Common.{◌≡◌, ◌≢◌, ℕ, zero, suc, ◌+◌, ◌<◌, ◌≤◌, Option, Some, None, List, [], ◌++◌, set, refl, sym, ap, ◌∙◌, subst, get_or-set_same, get_or-set_other, append_assoc, arith}
+use Rattle.std.proofs.Common.{◌≡◌, ◌≢◌, ℕ, zero, suc, ◌+◌, ◌<◌, ◌≤◌, Option, Some, None, List, [], ◌++◌, set, refl, sym, ap, ◌∙◌, subst, get_or-set_same, get_or-set_other, append_assoc, arith, length}
 use Rattle.std.specs.Prelude.{slice_index, All}
 use mathlib.Core.Option.{some}
 use mathlib.Core.List.{append-nil}
@@ -29,9 +29,10 @@ use Rattle.blink_live.specs.Changes.{put, after, states_of}
 use Rattle.blink_live.specs.Accounts.{AreAccounts}
 use Rattle.blink_live.specs.Reuse.{IsReuseSafe}
 use Rattle.blink_live.specs.Looks.{IsLeafInChain}
-use Rattle.blink_live.specs.Rule.{Owners, IsPublished, PageWordIs, latch_word, HasRows, HasNumbers, HasSpare, IsShare, IsInRole, IsBoundedWay, Knows, IsTableAt, IsTable, Names, NamesPage}
+use Rattle.blink_live.specs.Rule.{AreNamedBy, Owners, IsPublished, PageWordIs, latch_word, HasRows, HasNumbers, HasSpare, IsShare, IsInRole, IsBoundedWay, Knows, IsTableAt, IsTable, Names, NamesPage}
 use Rattle.blink_live.specs.Views.{IsCommon, IsOwned, span, publishes}
-use Rattle.blink_live.specs.Words.{place_word, word_count, BeginWith, RowBegins}
+use Rattle.blink_live.specs.Words.{place_word, word_count, BeginWith, RowBegins, named_row}
+use Rattle.blink_live.proofs.reuse.RowsAreTakenOut.{word_is_published}
 use Rattle.blink_live.proofs.changed.ChangesAreTheMaps.{after-append, states_of-append}
 use Rattle.blink_live.proofs.table.PoolStays.{pool_stays}
 use Rattle.blink_live.proofs.table.MapsWithOneChange.{put_here, put_else}
@@ -51,9 +52,9 @@ ways_stay tree_state new seat m invariant stay under = go m.state refl
         descent_bound_stays tree_state.pages new m number level reads.page stay at reads.there
     go state at = ap (descent_bound_at new (target m)) at ∙ sym (ap (descent_bound_at tree_state.pages (target m)) at)
 
--- the row is nobody's any more
-abbrev pub gives_row : Owners → ℕ → Owners
-gives_row owners row = record owners { row = put owners.row row 0 }
+-- the row is nobody's any more: the word of this page names it, and so many of its words are fixed
+abbrev pub gives_row : Owners → ℕ → ℕ → ℕ → Owners
+gives_row owners row number many = record owners { row = put owners.row row 0; fixed = put owners.fixed row many; named_by = put owners.named_by row number }
 
 module _ (plan : Plan) (s : State ℕ View) (tree_state then : TreeState) (h : IsTableAt plan s tree_state) (id number way : ℕ) (v : View) (after_it : PlainMachine) (content : List ℕ) (pages : Span) (stock : Stock) (at : get_elem? s.views id ≡ some v) (role : v.role ≡ Pass) where
   -- the tree's step: what the row holds is the page of this number now, or for number 0 the prime block, and else all is as it was
@@ -86,7 +87,7 @@ module _ (plan : Plan) (s : State ℕ View) (tree_state then : TreeState) (h : I
     log = h.log ++ made
 
     abbrev pub new : Owners
-    new = gives_row h.owners v.call.rows.next
+    new = gives_row h.owners v.call.rows.next number (length content)
 
     abbrev pub w : View
     w = publishes v after_it way pages share log stock
@@ -124,11 +125,16 @@ module _ (plan : Plan) (s : State ℕ View) (tree_state then : TreeState) (h : I
       pub its_account : (share.changes ≡ v.share.changes ++ made) × AreBy v.place made
 
     module _ (own : ChangesOwn) (bounded : IsBoundedWay then w) (reuse : IsCommon plan → IsReuseSafe plan new.row words (set s.views id w)) where
+      -- a published row is another
+      not_its_row : (row : ℕ) → h.owners.row row ≡ 0 → row ≢ v.call.rows.next
+      not_its_row row unowned same = let one : 0 ≡ suc id = sym unowned ∙ (ap h.owners.row same ∙ (known.for_call.first_own room).1) in omega (arith, one)
+
       leaves : LeavesOthers plan s tree_state then h id words new log
       leaves = record {
         machines = step.others;
         ways = λ seat m apart is. ways_stay tree_state then.pages seat m h.invariant step.places is;
         rows = λ row least most apart shared. (put_else h.owners.row v.call.rows.next row 0 (λ same. apart (ap h.owners.row same ∙ (known.for_call.first_own room).1)), stays row);
+        fixed = λ row unowned. put_else h.owners.fixed v.call.rows.next row (length content) (not_its_row row unowned);
         numbers = λ n apart shared. (refl, step.others_free n apart);
         keys = λ owned key apart. (
           refl,
@@ -207,7 +213,7 @@ module _ (plan : Plan) (s : State ℕ View) (tree_state then : TreeState) (h : I
 
       -- a word that is its number names it
       word_names_it : Names plan new words v.call.rows.next content
-      word_names_it = names_its_row plan new words v.call.rows.next content h.bounded is_published.0 is_published.1
+      word_names_it = names_its_row plan new words v.call.rows.next content h.bounded is_published.0 is_published.1 (put_here h.owners.fixed v.call.rows.next (length content))
 
       word_here : slice_index words number ≡ v.call.rows.next
       word_here = let wide = h.width in get_or-set_same s.words number v.call.rows.next 0 (omega (arith, wide, in_range))
@@ -220,10 +226,26 @@ module _ (plan : Plan) (s : State ℕ View) (tree_state then : TreeState) (h : I
       names_row n least same =
           let here = step.page_here (omega (arith, least, same)) in
           let its_words : RowBegins plan.counts words v.call.rows.next (page_words here.0) = subst (RowBegins plan.counts words v.call.rows.next) here.2 is_published.1 in
-          let names : NamesPage plan new words v.call.rows.next here.0 = names_its_page plan new words v.call.rows.next here.0 h.bounded is_published.0 its_words in
+          let names : NamesPage plan new words v.call.rows.next here.0 = names_its_page plan new words v.call.rows.next here.0 h.bounded is_published.0 its_words (put_here h.owners.fixed v.call.rows.next (length content) ∙ ap (λ (ws : List ℕ). length ws) here.2) in
           let word : slice_index words n ≡ v.call.rows.next = ap (slice_index words) same ∙ word_here in
           let is_page : then.pages n ≡ Some here.0 = ap then.pages same ∙ here.1 in
           subst (λ (t : ℕ × Option PlainPage). PageWordIs plan new words t.0 t.1) (λ i. (sym word i, sym is_page i)) names
+
+      -- and no other word does
+      named_row_is_published : (n : ℕ) → n < plan.counts.numbers → 1 ≤ named_row s.words n → IsPublished plan h.owners (named_row s.words n)
+      named_row_is_published n few least = dite (ℕ_discrete n 0)
+          (λ first. subst (λ (k : ℕ). IsPublished plan h.owners (named_row s.words k)) (sym first) h.prime.published)
+          (λ later. word_is_published plan h.owners s.words (slice_index s.words n) (tree_state.pages n) least (h.pages n (omega (arith, later)) few))
+
+      names_now : AreNamedBy plan.counts new.named_by words
+      names_now n few least = dite (ℕ_discrete n number)
+          (λ same.
+          let row : named_row words n ≡ v.call.rows.next = ap row_in (ap (slice_index words) same ∙ word_here) ∙ row_names_itself plan v.call.rows.next h.bounded row_inside in
+          ap new.named_by row ∙ (put_here h.owners.named_by v.call.rows.next number ∙ sym same))
+          (λ differ.
+          let row : named_row words n ≡ named_row s.words n = ap row_in (word_else n differ) in
+          let was : 1 ≤ named_row s.words n = omega (arith, least, row) in
+          ap new.named_by row ∙ (put_else h.owners.named_by v.call.rows.next (named_row s.words n) number (not_its_row (named_row s.words n) (named_row_is_published n few was).1) ∙ h.named_by n few was))
 
       prime_now : (n : ℕ) → number ≡ n → Names plan new words (slice_index words 0) (prime_words then.prime)
       prime_now zero is =
@@ -244,6 +266,7 @@ module _ (plan : Plan) (s : State ℕ View) (tree_state then : TreeState) (h : I
         pages = λ n least below. dite (ℕ_discrete n number) (names_row n least) (λ differ.
             subst (λ (t : ℕ × Option PlainPage). PageWordIs plan new words t.0 t.1) (λ i. (sym (word_else n differ) i, sym (step.other_pages n least differ) i))
             (page_word_still plan s tree_state then h id kept.0 words new log leaves (slice_index s.words n) (tree_state.pages n) (h.pages n least below)));
+        named_by = names_now;
         no_other_page = step.no_other_page;
         no_other_latch = λ n beyond. step.same_holder n ∙ h.no_other_latch n beyond;
         latches = λ n below. word_else (plan.counts.numbers + n) (λ e. omega (arith, e, in_range)) ∙ (h.latches n below ∙ (same_latch_word (tree_state.holder n) ∙ ap (latch_word new) (sym (step.same_holder n))));

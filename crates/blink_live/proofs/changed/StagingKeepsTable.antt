@@ -22,6 +22,7 @@ use Rattle.blink_live.proofs.table.AccountsStay.{accounts_stay}
 use Rattle.blink_live.proofs.table.OthersKnowTheSame.{LeavesOthers, RowStays, page_word_still, seat_reads_still}
 use Rattle.blink_live.proofs.table.LoadsKeepTable.{moved, load_keeps_with}
 use Rattle.blink_live.proofs.table.MapsWithOneChange.{put_here, put_same}
+use Rattle.blink_live.proofs.table.RowsAreNamed.{same_names}
 use Rattle.blink_live.proofs.table.StoresKeepTable.{prime_still, store_keeps}
 use Rattle.blink_live.proofs.table.SparesOfSeats.{spare_still}
 
@@ -75,6 +76,7 @@ module _ (plan : Plan) (s : State ℕ View) (tree_state : TreeState) (h : IsTabl
     machines = λ seat other. refl;
     ways = λ seat m other is. refl;
     rows = λ r least most apart shared. (refl, other_row_stays plan s.words row r i x some_row least (λ same. apart (ap h.owners.row same ∙ (known.for_call.first_own room).1)) inside);
+    fixed = λ row unowned. refl;
     numbers = λ n apart shared. (refl, λ free. free);
     keys = λ owned key apart. (refl, refl, refl);
     nobodys = h.nobodys;
@@ -140,6 +142,7 @@ module _ (plan : Plan) (s : State ℕ View) (tree_state : TreeState) (h : IsTabl
     prime = prime_still plan s tree_state tree_state h id kept.0 words h.owners h.log leaves (before_rows 0 (omega (arith, some_number))) refl;
     pages = λ n least below. subst (λ (word : ℕ). PageWordIs plan h.owners words word (tree_state.pages n)) (sym (before_rows n (omega (arith, below))))
         (page_word_still plan s tree_state tree_state h id kept.0 words h.owners h.log leaves (slice_index s.words n) (tree_state.pages n) (h.pages n least below));
+    named_by = same_names plan.counts h.owners.named_by s.words words (λ n few. before_rows n (omega (arith, few))) h.named_by;
     no_other_page = h.no_other_page;
     no_other_latch = h.no_other_latch;
     latches = λ n below. before_rows (plan.counts.numbers + n) (omega (arith, below)) ∙ h.latches n below;

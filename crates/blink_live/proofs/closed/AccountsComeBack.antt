@@ -35,6 +35,8 @@ owners_after old place host = record {
   key = old.key;
   latch_number = old.latch_number;
   place = put old.place place (suc host);
+  fixed = old.fixed;
+  named_by = old.named_by;
 }
 
 module _ (plan : Plan) (some_number : 1 ≤ plan.counts.numbers) (s : State ℕ View) (tree_state : TreeState) (h : IsTableAt plan s tree_state) (id other : ℕ) (v w : View)
@@ -87,7 +89,7 @@ module _ (plan : Plan) (some_number : 1 ≤ plan.counts.numbers) (s : State ℕ 
     in_role.0,
     in_role.1,
     (λ key untaken. let free = in_role.2 key untaken in record { own = free.own; saw_all = free.saw_all }),
-    λ share has. share_still plan old new s.words h.log (λ row is. is) 1 1 share (λ key is. is) (in_role.3 share has),
+    λ share has. share_still plan old new s.words h.log (record { rows = λ row is. is; fixed = refl; named_by = refl }) 1 1 share (λ key is. is) (in_role.3 share has),
   )
 
   host_knows : Knows plan new s.words tree_state h.log id both
@@ -95,12 +97,12 @@ module _ (plan : Plan) (some_number : 1 ≤ plan.counts.numbers) (s : State ℕ 
     same_plan = known.same_plan;
     operation = known.operation;
     bounded = known.bounded;
-    reads = seat_reads_still plan old new s.words h.log (λ row is. is) tree_state v known.reads;
+    reads = seat_reads_still plan old new s.words h.log (record { rows = λ row is. is; fixed = refl; named_by = refl }) tree_state v known.reads;
     rows = record { in_range = known.rows.in_range; own = known.rows.own };
     numbers = record { in_range = known.numbers.in_range; own = known.numbers.own; free = known.numbers.free };
     for_call = call_still plan old new s.words tree_state tree_state (suc id) v.call v.rows.next v.pages.next v.rows.next v.pages.next known.for_call (omega arith, omega arith) (λ r below own. own) (λ n below own. own) (λ n none. none);
     spare = spare_still plan old new tree_state tree_state (suc id) v.stock.spare v.pages.next v.call.pages known.spare (λ n own. own) (λ n none. none);
-    share = share_still plan old new s.words h.log (λ row is. is) (suc id) (suc id) v.share (λ key is. is) known.share;
+    share = share_still plan old new s.words h.log (record { rows = λ row is. is; fixed = refl; named_by = refl }) (suc id) (suc id) v.share (λ key is. is) known.share;
     saw = known.saw;
     heard = its.saw;
     in_role = subst (IsInRole plan new h.log id both) (sym role) host_in_role;
@@ -125,7 +127,7 @@ module _ (plan : Plan) (some_number : 1 ≤ plan.counts.numbers) (s : State ℕ 
 
   all_know : (seat : ℕ) (u : View) → get_elem? views_then seat ≡ some u → Knows plan new s.words tree_state h.log seat u
   all_know = all_seats (Knows plan new s.words tree_state h.log) host_knows (spent_knows plan new s.words tree_state h.log other [] some_number (its.operation ∙ idle) (h.log, refl))
-      (λ seat u not_spent not_host there_it. knows_still plan old new s.words h.log (λ row is. is) tree_state seat u (let first : id ≡ 0 = in_role.0 in omega (arith, first, not_host)) (still_owns seat not_spent) (h.views seat u there_it))
+      (λ seat u not_spent not_host there_it. knows_still plan old new s.words h.log (record { rows = λ row is. is; fixed = refl; named_by = refl }) tree_state seat u (let first : id ≡ 0 = in_role.0 in omega (arith, first, not_host)) (still_owns seat not_spent) (h.views seat u there_it))
 
   -- ---- the accounts
 
@@ -189,7 +191,7 @@ module _ (plan : Plan) (some_number : 1 ≤ plan.counts.numbers) (s : State ℕ 
       }
 
   takes_account_at : IsTableAt plan record { words = s.words; homes = s.homes; views = views_then } tree_state
-  takes_account_at = owners_change plan s tree_state h new views_then (λ row is. is) (λ number seat holds. refl) all_know
+  takes_account_at = owners_change plan s tree_state h new views_then (record { rows = λ row is. is; fixed = refl; named_by = refl }) (λ number seat holds. refl) all_know
       (let one : length (set s.views id both) ≡ length s.views = length-set s.views id both in
       let two : length views_then ≡ length (set s.views id both) = length-set (set s.views id both) other (spent plan) in
       omega (arith, one, two))

@@ -40,6 +40,8 @@ owners_after old seat v rows pages keys = record {
   key = λ key. if is_among keys key then suc seat else old.key key;
   latch_number = put old.latch_number seat (latch_in v.plan.places (v.rows.next + rows));
   place = put old.place (dealt_in v.role) (suc seat);
+  fixed = old.fixed;
+  named_by = old.named_by;
 }
 
 -- the changes of no key
@@ -91,7 +93,7 @@ module _ (plan : Plan) (s : State ℕ View) (tree_state : TreeState) (h : IsTabl
       go false has = is
 
   published : StaysPublished old new
-  published row is = row_else row 0 is (λ e. absurd (omega (arith, e)))
+  published = record { rows = λ row is. row_else row 0 is (λ e. absurd (omega (arith, e))); fixed = refl; named_by = refl }
 
   latch_else : (seat : ℕ) → seat ≢ new_seat → new.latch_number seat ≡ old.latch_number seat
   latch_else seat other = put_else old.latch_number new_seat seat (latch_in v.plan.places (v.rows.next + rows)) other
@@ -335,7 +337,7 @@ module _ (plan : Plan) (s : State ℕ View) (tree_state : TreeState) (h : IsTabl
 
   reuse_then : IsCommon plan → IsReuseSafe plan new.row s.words views_then
   reuse_then common = reuse_longer plan new.row s.words (set s.views id left) right refl refl refl
-      (reuse_stays plan old.row s.words s.views id v left at (h.reuse common) new.row s.words published
+      (reuse_stays plan old.row s.words s.views id v left at (h.reuse common) new.row s.words published.rows
       (λ seat row later is apart. ranged_out v.rows.next (v.rows.next + rows) (suc new_seat) old.row row (λ low high. let enough = can.enough_rows in let mine = known.rows.own row low (omega (arith, high, enough)) in let first = in_role.0 in let one : suc seat ≡ suc id = sym is ∙ mine in omega (arith, one, first, later)) ∙ is)
       (λ n few. refl) refl fewer_rows
       (λ row content is. absurd (let e : Keeper can.dealt can.back ≡ Pass = sym can.role ∙ (((h.reuse common).stocks id v at).awake row content is).0 in cc)))

@@ -1,5 +1,5 @@
 -- The load of the prime block's page word is the first step of an operation.
-use Rattle.std.proofs.Common.{◌≡◌, ℕ, suc, ◌+◌, ◌≤◌, Some, None, List, [], ◌++◌, refl, sym, ap, ◌∙◌, subst, inl, ⊎_elim, ◌⊎◌, ◌≢◌, ◌<◌, arith}
+use Rattle.std.proofs.Common.{◌≡◌, ℕ, suc, ◌+◌, ◌≤◌, Some, None, List, [], ◌++◌, length, refl, sym, ap, ◌∙◌, subst, inl, ⊎_elim, ◌⊎◌, ◌≢◌, ◌<◌, arith}
 use mathlib.Core.Option.{some}
 use lib.ListN.{get_elem?}
 use mathlib.Core.List.{append-nil}
@@ -114,8 +114,8 @@ call_of_rows plan s tree_state h id v op at can row = λ hand.
     (λ (t : (v.rows.next ≤ row) × (row < v.rows.next + rows_taken op v.rows)). inl (inl (t.0, omega (arith, t, enough)))) hand
 
 -- nothing stands behind a prime block
-pub alone : (counts : PlainCounts) (words : List ℕ) (row : ℕ) (content : List ℕ) → RowBegins counts words row content → RowBegins counts words row (content ++ [])
-alone counts words row content is = subst (RowBegins counts words row) (sym (append-nil content)) is
+pub alone : (counts : PlainCounts) (words : List ℕ) (row fixed : ℕ) (content : List ℕ) → RowBegins counts words row content → fixed ≡ length content → RowBegins counts words row (content ++ []) × (length (content ++ []) ≤ fixed)
+alone counts words row fixed content is all = (subst (RowBegins counts words row) (sym (append-nil content)) is, (let same = ap (λ (ws : List ℕ). length ws) (append-nil content) in omega (arith, same, all)))
 
 pub begins_operation : (plan : Plan) (slots id : ℕ) (me : SeatState) (op : Op) → me.0.role ≡ Pass → me.0.operation ≡ None → FitsWords op → CanBegin me.0 op → 1 ≤ plan.counts.numbers
     → Allows (IsTable plan) slots id me 0 (λ k. k) (begins op (step slots 0 0 0 none) me)
@@ -142,7 +142,7 @@ begins_operation plan slots id me op role idle fits enough some_number s table h
           (λ common role. still_saw plan h.owners.place h.log s.views id me.0 w at (h.accounted common) (account plan h.owners.place h.log s.views id me.0 w at (h.accounted common) role) h.log known.saw ([], append-nil h.log) role)
           (λ common. reuse_stays plan h.owners.row s.words s.views id me.0 w at (h.reuse common) h.owners.row s.words (λ other is. is) (λ seat r later is apart. is) (λ n few. refl) refl (call_of_rows plan s tree_state h id me.0 op at enough)
           (reads_named plan s.words me.0 w 0 row (prime_words tree_state.prime) refl refl refl refl role (enough.announced (subst IsCommon (sym known.same_plan) common)) (omega (arith, some_number)) refl))
-          (begin_knows plan s tree_state h id me.0 after row way (prime_words tree_state.prime) at role op enough (λ other is. ap (descent_bound tree_state.pages) (sym (goes_on_as after after.state other is))) (h.prime.published, alone plan.counts s.words row (prime_words tree_state.prime) h.prime.begins)),
+          (begin_knows plan s tree_state h id me.0 after row way (prime_words tree_state.prime) at role op enough (λ other is. ap (descent_bound tree_state.pages) (sym (goes_on_as after after.state other is))) (let stands = alone plan.counts s.words row (h.owners.fixed row) (prime_words tree_state.prime) h.prime.begins h.prime.fixed in (h.prime.published, stands.0, stands.1))),
       (
         after,
         record {

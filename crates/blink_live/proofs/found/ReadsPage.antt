@@ -86,7 +86,7 @@ reads_page_word plan slots id number me m role at_m fits needs some_number in_ra
       tt,
       load_keeps plan s tree_state h id number me.0 w at role (m, at_m) invariant refl
           (λ some_other is. ap (descent_bound tree_state.pages) (sym (goes_on_as then then.state some_other is)))
-          (is_page.published, is_page.begins)
+          (is_page.published, is_page.begins, (let all = is_page.fixed in omega (arith, all)))
           ([], append-nil h.log)
           (h.views id me.0 at).saw
           (λ common. reads_named plan s.words me.0 w number row (page_words is_page.base) refl refl refl refl role (announced (subst IsCommon (sym known.same_plan) common)) in_range refl),

@@ -22,6 +22,8 @@ keys_moved old moved owner = record {
   key = λ key. if moved key then owner else old.key key;
   latch_number = old.latch_number;
   place = old.place;
+  fixed = old.fixed;
+  named_by = old.named_by;
 }
 
 module _ (plan : Plan) (old : Owners) (words : List ℕ) (tree_state : TreeState) (log : List Change) (moved : ℕ → Bool) (owner giver : ℕ) (some_pass : 1 ≤ giver) (only : (key : ℕ) → moved key ≡ true → old.key key ≡ suc giver) where
@@ -47,7 +49,7 @@ module _ (plan : Plan) (old : Owners) (words : List ℕ) (tree_state : TreeState
     is.0,
     is.1,
     λ key untaken. let free = is.2 key untaken in record { own = key_else key 0 free.own (λ e. absurd (omega (arith, e))); saw_all = free.saw_all },
-    λ returned came. share_still plan old new words log (λ row was. was) 1 1 returned (λ key was. key_else key 1 was (λ e. omega (arith, e, some_pass))) (is.3 returned came),
+    λ returned came. share_still plan old new words log (record { rows = λ row is. is; fixed = refl; named_by = refl }) 1 1 returned (λ key was. key_else key 1 was (λ e. omega (arith, e, some_pass))) (is.3 returned came),
   )
   role_then seat v share told Pass is = is
   role_then seat v share told Spent is = is
@@ -59,7 +61,7 @@ module _ (plan : Plan) (old : Owners) (words : List ℕ) (tree_state : TreeState
     same_plan = known.same_plan;
     operation = known.operation;
     bounded = known.bounded;
-    reads = seat_reads_still plan old new words log (λ row was. was) tree_state v known.reads;
+    reads = seat_reads_still plan old new words log (record { rows = λ row is. is; fixed = refl; named_by = refl }) tree_state v known.reads;
     rows = record { in_range = known.rows.in_range; own = known.rows.own };
     numbers = record { in_range = known.numbers.in_range; own = known.numbers.own; free = known.numbers.free };
     for_call = call_still plan old new words tree_state tree_state (suc seat) v.call v.rows.next v.pages.next v.rows.next v.pages.next known.for_call (omega arith, omega arith) (λ r below own. own) (λ n below own. own) (λ n none. none);
@@ -76,4 +78,4 @@ module _ (plan : Plan) (old : Owners) (words : List ℕ) (tree_state : TreeState
   -- any other seat
   pub others_know : (seat : ℕ) (v : View) → seat ≢ giver → Knows plan old words tree_state log seat v → Knows plan new words tree_state log seat v
   others_know seat v other known = knows_then seat v v.share v.told
-      (share_still plan old new words log (λ row was. was) (suc seat) (suc seat) v.share (λ key was. key_else key (suc seat) was (λ e. other (omega (arith, e)))) known.share) known.heard known
+      (share_still plan old new words log (record { rows = λ row is. is; fixed = refl; named_by = refl }) (suc seat) (suc seat) v.share (λ key was. key_else key (suc seat) was (λ e. other (omega (arith, e)))) known.share) known.heard known

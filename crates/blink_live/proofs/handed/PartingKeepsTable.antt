@@ -104,7 +104,7 @@ module _ (plan : Plan) (some_number : 1 ≤ plan.counts.numbers) (s : State ℕ 
       }
 
   parts_at : IsTableAt plan record { words = s.words; homes = s.homes; views = views_then } tree_state
-  parts_at = owners_change plan s tree_state h new views_then (λ row is. is) (λ number seat holds. refl) all_know
+  parts_at = owners_change plan s tree_state h new views_then (record { rows = λ row is. is; fixed = refl; named_by = refl }) (λ number seat holds. refl) all_know
       (let same : length (set s.views id (parts_with v keys)) ≡ length s.views = length-set s.views id (parts_with v keys) in
       let longer : length views_then ≡ length (set s.views id (parts_with v keys)) + 1 = length-append (set s.views id (parts_with v keys)) (parcel_of v keys ∷ []) in
       omega (arith, same, longer))

@@ -98,7 +98,7 @@ module _ (plan : Plan) (some_number : 1 ≤ plan.counts.numbers) (s : State ℕ 
       (at_set s.views id seat both u at_seat))
 
   receives_at : IsTableAt plan record { words = s.words; homes = s.homes; views = views_then } tree_state
-  receives_at = owners_change plan s tree_state h new views_then (λ row is. is) (λ number seat holds. refl) all_know
+  receives_at = owners_change plan s tree_state h new views_then (record { rows = λ row is. is; fixed = refl; named_by = refl }) (λ number seat holds. refl) all_know
       (let one : length (set s.views id both) ≡ length s.views = length-set s.views id both in
       let two : length views_then ≡ length (set s.views id both) = length-set (set s.views id both) other (spent plan) in
       omega (arith, one, two))

@@ -1,5 +1,5 @@
 -- The loads of a snapshot keep the rule: a seat notes leaves, marks a tree state, and loads their page words once more.
-use Rattle.std.proofs.Common.{◌≡◌, ◌≢◌, ⊎_elim, ℕ, suc, ◌<◌, ◌≤◌, Option, Some, None, List, [], get_or, set, refl, sym, ap, ◌∙◌, subst, inl, inr}
+use Rattle.std.proofs.Common.{◌≡◌, ◌≢◌, ⊎_elim, ℕ, suc, ◌<◌, ◌≤◌, Option, Some, None, List, [], get_or, set, refl, sym, ap, ◌∙◌, arith, subst, inl, inr}
 use Rattle.std.specs.Prelude.{Contains, slice_index}
 use mathlib.Core.Option.{some, none}
 use mathlib.Core.List.{append-nil}
@@ -171,7 +171,7 @@ module _ (plan : Plan) (s : State ℕ View) (tree_state : TreeState) (h : IsTabl
     again_keeps = load_keeps_with plan s tree_state h id number v again at still refl refl refl (λ common. (h.accounted common).saw_own id v at)
         (λ common. reuse_stays plan h.owners.row s.words s.views id v again at (h.reuse common) h.owners.row s.words (λ r is. is) (λ seat r later is apart. is) (λ n few. refl) refl (hand_stays h.owners.row id v again refl refl)
         (reads_named plan s.words v again number named (page_words is_page.base) refl refl refl refl role (awake common) in_range refl))
-        (load_knows_in plan s tree_state h id number v again at (subst (IsInRole plan h.owners h.log id again) (sym role) kept) busy refl known.bounded (is_page.published, is_page.begins) known.saw)
+        (load_knows_in plan s tree_state h id number v again at (subst (IsInRole plan h.owners h.log id again) (sym role) kept) busy refl known.bounded (is_page.published, is_page.begins, (let all = is_page.fixed in omega (arith, all))) known.saw)
 
     pub is_lawful : Contains v.look.leaves (number, slice_index s.words number) → IsLawfulPage MAX_FAN page
     is_lawful has =

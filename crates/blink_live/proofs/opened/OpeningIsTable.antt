@@ -1,5 +1,5 @@
 -- The words of a table that opens are a table: the tree at rest, with its keeper alone.
-use Rattle.std.proofs.Common.{◌≡◌, ℕ, zero, suc, ◌+◌, ◌*◌, ◌<◌, ◌≤◌, Option, None, List, [], ◌∷◌, length, refl, sym, ap, ◌∙◌, subst, inl, inr, arith}
+use Rattle.std.proofs.Common.{◌≡◌, ℕ, zero, suc, ◌+◌, ◌*◌, ◌-◌, ◌<◌, ◌≤◌, Option, Some, None, List, [], ◌∷◌, length, refl, sym, ap, ◌∙◌, subst, inl, inr, arith}
 use Rattle.std.specs.Prelude.{Contains, slice_index}
 use Rattle.std.proofs.lemmas.Bool.{cases_lt}
 use Rattle.std.proofs.lemmas.Option.{slice_get_past}
@@ -9,7 +9,7 @@ use Rattle.atomic_table.specs.Table.{opening}
 use Rattle.blink_index.specs.{map_of}
 use Rattle.blink_page.specs.{PlainPage}
 use Rattle.blink_rest.specs.{IsStoreAtRest}
-use Rattle.blink_rows.specs.{PlainCounts, AreBounded, prime_words, row_in}
+use Rattle.blink_rows.specs.{PlainCounts, AreBounded, page_words, prime_words, row_in}
 use Rattle.blink_store.specs.{PlainStore, page_of, IsLawfulStore}
 use Rattle.blink_store.proofs.Offered.{has_page, page_there}
 use Rattle.blink_machine.specs.TreeState.{TreeState}
@@ -23,7 +23,7 @@ use Rattle.blink_live.specs.declared.view.View.{View}
 use Rattle.blink_live.specs.Laid.{IsLaidWith}
 use Rattle.blink_live.specs.Reuse.{AgreesWith, AreNamedOnce, HasStock}
 use Rattle.blink_live.specs.Accounts.{AreApart, HasSeenItsOwn, IsAccount, accounts_of}
-use Rattle.blink_live.specs.Rule.{HasNumbers, HasPool, HasRows, Names, Owners, PageWordIs, Knows, IsTable}
+use Rattle.blink_live.specs.Rule.{AreNamedBy, HasNumbers, HasPool, HasRows, Names, Owners, PageWordIs, Knows, IsTable}
 use Rattle.blink_live.specs.Views.{IsCommon, first_span, first_view, no_stock, span}
 use Rattle.blink_live.specs.Words.{named_row}
 use Rattle.blink_live.proofs.table.LooksStay.{nothing_noted}
@@ -63,14 +63,30 @@ owner_on zero n late = refl
 owner_on (suc first) zero late = absurd (omega arith)
 owner_on (suc first) (suc n) late = owner_on first n (omega arith)
 
+-- row 1 is the prime block's, and page n has row n + 1
+abbrev words_in : Option PlainPage → ℕ
+words_in None = 0
+words_in (Some page) = length (page_words page)
+
+abbrev fixed_over : PlainStore → ℕ → ℕ
+fixed_over store zero = 0
+fixed_over store (suc zero) = length (prime_words store.prime)
+fixed_over store (suc (suc n)) = words_in (page_of store (suc n))
+
+fixed_of_page : (store : PlainStore) (number : ℕ) (page : PlainPage) → 1 ≤ number → page_of store number ≡ Some page → fixed_over store (number + 1) ≡ length (page_words page)
+fixed_of_page store zero page least there = absurd (omega (arith, least))
+fixed_of_page store (suc n) page least there = let row : suc n + 1 ≡ suc (suc n) = omega arith in ap (fixed_over store) row ∙ ap words_in there
+
 -- what no page has is the keeper's: its seat is the first
-abbrev pub owners_over : ℕ → Owners
-owners_over count = record {
-  row = owner_from (count + 2);
-  page = owner_from (count + 1);
+abbrev pub owners_over : PlainStore → Owners
+owners_over store = record {
+  row = owner_from (length store.pages + 2);
+  page = owner_from (length store.pages + 1);
   key = λ key. 0;
   latch_number = λ seat. 0;
   place = λ place. 0;
+  fixed = fixed_over store;
+  named_by = λ row. row - 1;
 }
 
 -- no page has a number behind the last
@@ -107,28 +123,28 @@ opening_tree_state store at_rest lawful = step_law.opening_has_invariant (tree_s
 
 module _ (store : PlainStore) (counts : PlainCounts) (places : ℕ) (words : List ℕ) (numbers : length store.pages < counts.numbers) (rows : length store.pages < counts.rows) (bounded : AreBounded counts) (laid : IsLaidWith counts places store words) where
   -- each page word names its page's row
-  page_words_are : (number : ℕ) → 1 ≤ number → number < counts.numbers → PageWordIs (plan_over store counts places) (owners_over (length store.pages)) words (slice_index words number) (page_of store number)
+  page_words_are : (number : ℕ) → 1 ≤ number → number < counts.numbers → PageWordIs (plan_over store counts places) (owners_over store) words (slice_index words number) (page_of store number)
   page_words_are number least early =
       let plan = plan_over store counts places in
-      let owners = owners_over (length store.pages) in
+      let owners = owners_over store in
       elim (cases_lt number (length store.pages + 1)) [
         | inl less ↦
             let found = page_there store number (least, omega arith) in
             let named : slice_index words number ≡ number + 1 = laid.page_words_named number (omega arith) in
             let free = owner_before (length store.pages + 2) (number + 1) (omega arith) in
             subst (λ (t : ℕ × Option PlainPage). PageWordIs plan owners words t.0 t.1) (λ i. (sym named i, sym found.1 i))
-            (names_its_page plan owners words (number + 1) found.0 bounded ((omega arith, omega arith), free) (λ i inside few. laid.page_rows number found.0 found.1 i inside))
+            (names_its_page plan owners words (number + 1) found.0 bounded ((omega arith, omega arith), free) (λ i inside few. laid.page_rows number found.0 found.1 i inside) (fixed_of_page store number found.0 least found.1))
         | inr more ↦ subst (PageWordIs plan owners words (slice_index words number)) (sym (no_page_past store number (omega arith))) (laid.no_more number (omega arith) (omega arith))
       ]
 
   -- the rows and page numbers that no page has
-  all_rows : HasRows (plan_over store counts places) (owners_over (length store.pages)) 1 (span (length store.pages + 2) (counts.rows + 1))
+  all_rows : HasRows (plan_over store counts places) (owners_over store) 1 (span (length store.pages + 2) (counts.rows + 1))
   all_rows = record {
     in_range = (omega arith, omega arith);
     own = λ row late early. owner_on (length store.pages + 2) row late;
   }
 
-  all_numbers : HasNumbers (plan_over store counts places) (owners_over (length store.pages)) (tree_state_over store) 1 (span (length store.pages + 1) counts.numbers)
+  all_numbers : HasNumbers (plan_over store counts places) (owners_over store) (tree_state_over store) 1 (span (length store.pages + 1) counts.numbers)
   all_numbers = record {
     in_range = (omega arith, omega arith);
     own = λ number late early. owner_on (length store.pages + 1) number late;
@@ -136,32 +152,32 @@ module _ (store : PlainStore) (counts : PlainCounts) (places : ℕ) (words : Lis
   }
 
   -- are the keeper's, or the pool's
-  first_rows : (n : ℕ) → HasRows (plan_over store counts places) (owners_over (length store.pages)) 1 (first_span n (length store.pages + 2) (counts.rows + 1))
+  first_rows : (n : ℕ) → HasRows (plan_over store counts places) (owners_over store) 1 (first_span n (length store.pages + 2) (counts.rows + 1))
   first_rows zero = all_rows
   first_rows (suc n) = record { in_range = (omega arith, omega arith); own = λ row low high. absurd (omega (arith, low, high)) }
 
-  first_numbers : (n : ℕ) → HasNumbers (plan_over store counts places) (owners_over (length store.pages)) (tree_state_over store) 1 (first_span n (length store.pages + 1) counts.numbers)
+  first_numbers : (n : ℕ) → HasNumbers (plan_over store counts places) (owners_over store) (tree_state_over store) 1 (first_span n (length store.pages + 1) counts.numbers)
   first_numbers zero = all_numbers
   first_numbers (suc n) = record { in_range = (omega arith, omega arith); own = λ number low high. absurd (omega (arith, low, high)); free = λ number low high. absurd (omega (arith, low, high)) }
 
-  first_pool : IsCommon (plan_over store counts places) → HasPool (plan_over store counts places) (owners_over (length store.pages)) words (tree_state_over store)
+  first_pool : IsCommon (plan_over store counts places) → HasPool (plan_over store counts places) (owners_over store) words (tree_state_over store)
   first_pool common = record {
-    rows = subst (λ (n : ℕ). HasRows (plan_over store counts places) (owners_over (length store.pages)) 1 (span n (counts.rows + 1))) (sym (laid.pool_rows common)) all_rows;
-    pages = subst (λ (n : ℕ). HasNumbers (plan_over store counts places) (owners_over (length store.pages)) (tree_state_over store) 1 (span n counts.numbers)) (sym (laid.pool_pages common)) all_numbers;
+    rows = subst (λ (n : ℕ). HasRows (plan_over store counts places) (owners_over store) 1 (span n (counts.rows + 1))) (sym (laid.pool_rows common)) all_rows;
+    pages = subst (λ (n : ℕ). HasNumbers (plan_over store counts places) (owners_over store) (tree_state_over store) 1 (span n counts.numbers)) (sym (laid.pool_pages common)) all_numbers;
   }
 
   -- the keeper knows what is so
-  keeper_knows : Knows (plan_over store counts places) (owners_over (length store.pages)) words (tree_state_over store) [] 0 (first_view (length store.pages) (plan_over store counts places))
+  keeper_knows : Knows (plan_over store counts places) (owners_over store) words (tree_state_over store) [] 0 (first_view (length store.pages) (plan_over store counts places))
   keeper_knows = record {
     same_plan = refl;
     operation = refl;
     bounded = λ m is. absurd (cc);
-    reads = (tt, nothing_noted (plan_over store counts places) (owners_over (length store.pages)).row words (tree_state_over store).fan (tree_state_over store).prime (tree_state_over store).pages);
+    reads = (tt, nothing_noted (plan_over store counts places) (owners_over store).row words (tree_state_over store).fan (tree_state_over store).prime (tree_state_over store).pages);
     rows = first_rows places;
     numbers = first_numbers places;
-    for_call = nothing_for_call (plan_over store counts places) (owners_over (length store.pages)) words (tree_state_over store) 1 (first_span places (length store.pages + 2) (counts.rows + 1)).next (first_span places (length store.pages + 1) counts.numbers).next
+    for_call = nothing_for_call (plan_over store counts places) (owners_over store) words (tree_state_over store) 1 (first_span places (length store.pages + 2) (counts.rows + 1)).next (first_span places (length store.pages + 1) counts.numbers).next
         (some_first places (length store.pages + 2) (counts.rows + 1) (omega arith)) (some_first places (length store.pages + 1) counts.numbers (omega arith)) (omega arith);
-    spare = no_spare (plan_over store counts places) (owners_over (length store.pages)) (tree_state_over store) 1 (first_span places (length store.pages + 1) counts.numbers).next (span 1 1) (omega arith);
+    spare = no_spare (plan_over store counts places) (owners_over store) (tree_state_over store) 1 (first_span places (length store.pages + 1) counts.numbers).next (span 1 1) (omega arith);
     share = λ key among. absurd (omega (arith, among.1));
     saw = ([], refl);
     heard = ([], refl);
@@ -182,6 +198,18 @@ module _ (store : PlainStore) (counts : PlainCounts) (places : ℕ) (words : Lis
 
   unnamed : (number : ℕ) → length store.pages < number → number < 2 * counts.numbers → named_row words number ≡ 0
   unnamed number more inside = no_row_in (slice_index words number) (laid.no_more number more inside)
+
+  -- by the word of one page
+  names_open : AreNamedBy counts (owners_over store).named_by words
+  names_open number few least =
+      elim (cases_lt number (length store.pages + 1)) [
+        | inl less ↦
+            let row = named number (omega arith) in
+            omega (arith, row)
+        | inr more ↦
+            let none = unnamed number (omega arith) (omega arith) in
+            absurd (omega (arith, none, least))
+      ]
 
   -- each page has a row of its own
   once : AreNamedOnce counts words
@@ -206,7 +234,7 @@ module _ (store : PlainStore) (counts : PlainCounts) (places : ℕ) (words : Lis
       → IsTable (plan_over store counts places) (opening words [] (first_view (length store.pages) (plan_over store counts places)))
   opens at_rest lawful is_map =
       let plan = plan_over store counts places in
-      let owners = owners_over (length store.pages) in
+      let owners = owners_over store in
       let first_named : slice_index words 0 ≡ 1 = laid.page_words_named 0 (omega arith) in (
         tree_state_over store,
         record {
@@ -219,8 +247,9 @@ module _ (store : PlainStore) (counts : PlainCounts) (places : ℕ) (words : Lis
           bounded = bounded;
           width = laid.width;
           prime = subst (λ (word : ℕ). Names plan owners words word (prime_words store.prime)) (sym first_named)
-              (names_its_row plan owners words 1 (prime_words store.prime) bounded ((omega arith, omega arith), owner_before (length store.pages + 2) 1 (omega arith)) (λ i inside few. laid.prime_row i inside));
+              (names_its_row plan owners words 1 (prime_words store.prime) bounded ((omega arith, omega arith), owner_before (length store.pages + 2) 1 (omega arith)) (λ i inside few. laid.prime_row i inside) refl);
           pages = page_words_are;
+          named_by = names_open;
           no_other_page = λ number late. no_page_past store number (omega arith);
           no_other_latch = λ number late. refl;
           latches = λ number early. laid.no_more (counts.numbers + number) (omega arith) (omega arith);

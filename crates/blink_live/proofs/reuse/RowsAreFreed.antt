@@ -78,7 +78,7 @@ module _ (plan : Plan) (s : State ℕ View) (tree_state : TreeState) (h : IsTabl
 
   page_still : (word : ℕ) (page : Option PlainPage) → PageWordIs plan h.owners s.words word page → PageWordIs plan new s.words word page
   page_still word None is = is
-  page_still word (Some page) is = page_still_named plan h.owners new s.words word page (published_still (row_in word) is.published.1) is
+  page_still word (Some page) is = page_still_named plan h.owners new s.words word page (published_still (row_in word) is.published.1) refl is
 
   -- ---- no page word names it, and nobody reads it
 
@@ -100,7 +100,7 @@ module _ (plan : Plan) (s : State ℕ View) (tree_state : TreeState) (h : IsTabl
 
   reads_then : (reads : Option (ℕ × List ℕ)) (behind : List ℕ) → ReadsRow plan h.owners s.words reads behind → ReadsRow plan new s.words reads behind
   reads_then None behind is = is
-  reads_then (Some (r, content)) behind is = ((is.0.0, published_still r is.0.1), is.1)
+  reads_then (Some (r, content)) behind is = ((is.0.0, published_still r is.0.1), is.1, is.2)
 
   looks_then : (u : View) → HasLooked plan h.owners.row s.words tree_state.fan tree_state.prime tree_state.pages u.look → HasLooked plan whose s.words tree_state.fan tree_state.prime tree_state.pages u.look
   looks_then u = looks_stay plan h.owners.row whose s.words s.words tree_state.fan tree_state.fan tree_state.prime tree_state.prime tree_state.pages tree_state.pages u.look
@@ -208,8 +208,9 @@ module _ (plan : Plan) (s : State ℕ View) (tree_state : TreeState) (h : IsTabl
           prime_numbers = h.prime_numbers;
           bounded = h.bounded;
           width = h.width;
-          prime = names_still plan h.owners new s.words (slice_index s.words 0) (prime_words tree_state.prime) (published_still (named_row s.words 0) h.prime.published.1) h.prime;
+          prime = names_still plan h.owners new s.words (slice_index s.words 0) (prime_words tree_state.prime) (published_still (named_row s.words 0) h.prime.published.1) refl h.prime;
           pages = λ number least few. page_still (slice_index s.words number) (tree_state.pages number) (h.pages number least few);
+          named_by = h.named_by;
           no_other_page = h.no_other_page;
           no_other_latch = h.no_other_latch;
           latches = λ number few. h.latches number few ∙ same_latch_word (tree_state.holder number);

@@ -23,7 +23,7 @@ use Rattle.blink_live.proofs.table.MapsWithOneChange.{put_here, put_else}
 use Rattle.blink_live.proofs.table.RowsAreNamed.{no_row_in, row_names_itself}
 
 -- a row that a page word names is published
-word_is_published : (plan : Plan) (owners : Owners) (words : List ℕ) (word : ℕ) (page : Option PlainPage) → 1 ≤ row_in word → PageWordIs plan owners words word page → IsPublished plan owners (row_in word)
+pub word_is_published : (plan : Plan) (owners : Owners) (words : List ℕ) (word : ℕ) (page : Option PlainPage) → 1 ≤ row_in word → PageWordIs plan owners words word page → IsPublished plan owners (row_in word)
 word_is_published plan owners words word None least is = let none = no_row_in word is in absurd (omega (arith, least, none))
 word_is_published plan owners words word (Some page) least is = is.published
 

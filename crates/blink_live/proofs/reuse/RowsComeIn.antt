@@ -118,13 +118,13 @@ module _ (plan : Plan) (s : State ℕ View) (tree_state : TreeState) (h : IsTabl
 
   page_still : (number : ℕ) → number < plan.counts.numbers → (page : Option PlainPage) → PageWordIs plan h.owners s.words (slice_index s.words number) page → PageWordIs plan new s.words (slice_index s.words number) page
   page_still number few None is = is
-  page_still number few (Some page) is = page_still_named plan h.owners new s.words (slice_index s.words number) page (named_still number few is.published.1) is
+  page_still number few (Some page) is = page_still_named plan h.owners new s.words (slice_index s.words number) page (named_still number few is.published.1) refl is
 
   -- nobody reads it
   reads_then : (seat : ℕ) (u : View) → get_elem? s.views seat ≡ some u → (reads : Option (ℕ × List ℕ)) (behind : List ℕ) → u.reads ≡ reads → ReadsRow plan h.owners s.words reads behind → ReadsRow plan new s.words reads behind
   reads_then seat u there None behind same is = is
   reads_then seat u there (Some (r, content)) behind same is =
-      ((is.0.0, else_same r (λ e. (safe.agree id seat v u at there r content (inl same)).not_free (subst (Contains v.stock.free) (sym e) row_is_free)) ∙ is.0.1), is.1)
+      ((is.0.0, else_same r (λ e. (safe.agree id seat v u at there r content (inl same)).not_free (subst (Contains v.stock.free) (sym e) row_is_free)) ∙ is.0.1), is.1, is.2)
 
   -- nor has anybody noted it
   looks_then : (seat : ℕ) (u : View) → get_elem? s.views seat ≡ some u → HasLooked plan h.owners.row s.words tree_state.fan tree_state.prime tree_state.pages u.look → HasLooked plan whose s.words tree_state.fan tree_state.prime tree_state.pages u.look
@@ -244,8 +244,9 @@ module _ (plan : Plan) (s : State ℕ View) (tree_state : TreeState) (h : IsTabl
           prime_numbers = h.prime_numbers;
           bounded = h.bounded;
           width = h.width;
-          prime = names_still plan h.owners new s.words (slice_index s.words 0) (prime_words tree_state.prime) (named_still 0 (omega (arith, some_number)) h.prime.published.1) h.prime;
+          prime = names_still plan h.owners new s.words (slice_index s.words 0) (prime_words tree_state.prime) (named_still 0 (omega (arith, some_number)) h.prime.published.1) refl h.prime;
           pages = λ number least few. page_still number few (tree_state.pages number) (h.pages number least few);
+          named_by = h.named_by;
           no_other_page = h.no_other_page;
           no_other_latch = h.no_other_latch;
           latches = λ number few. h.latches number few ∙ same_latch_word (tree_state.holder number);

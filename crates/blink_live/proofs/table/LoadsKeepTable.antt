@@ -71,6 +71,7 @@ module _ (plan : Plan) (s : State ℕ View) (tree_state : TreeState) (h : IsTabl
       width = h.width;
       prime = h.prime;
       pages = h.pages;
+      named_by = h.named_by;
       no_other_page = h.no_other_page;
       no_other_latch = h.no_other_latch;
       latches = h.latches;

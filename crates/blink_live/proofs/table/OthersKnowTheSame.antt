@@ -39,6 +39,7 @@ pub record LeavesOthers (plan : Plan) (s : State ℕ View) (tree_state then : Tr
   pub machines : (seat : ℕ) → seat ≢ id → then.machines seat ≡ tree_state.machines seat
   pub ways : (seat : ℕ) (m : PlainMachine) → seat ≢ id → tree_state.machines seat ≡ Some m → descent_bound then.pages m ≡ descent_bound tree_state.pages m
   pub rows : (row : ℕ) → 1 ≤ row → row ≤ plan.counts.rows → h.owners.row row ≢ suc id → (IsCommon plan → h.owners.row row ≢ suc 0) → (new.row row ≡ h.owners.row row) × RowStays plan s.words words row
+  pub fixed : (row : ℕ) → h.owners.row row ≡ 0 → new.fixed row ≡ h.owners.fixed row
   pub numbers : (number : ℕ) → h.owners.page number ≢ suc id → (IsCommon plan → h.owners.page number ≢ suc 0) → (new.page number ≡ h.owners.page number) × (tree_state.pages number ≡ None → then.pages number ≡ None)
   pub keys : IsOwned plan → (key : ℕ) → h.owners.key key ≢ suc id
       → (new.key key ≡ h.owners.key key) × (states_of key log ≡ states_of key h.log) × (after (pointer_of plan.opening) log key ≡ after (pointer_of plan.opening) h.log key)
@@ -60,7 +61,7 @@ module _ (plan : Plan) (s : State ℕ View) (tree_state then : TreeState) (h : I
 
   pub word_names_still : (word : ℕ) (content : List ℕ) → Names plan h.owners s.words word content → Names plan new words word content
   word_names_still word content is =
-      let t = still_published (row_in word) is.published in record { published = t.0; begins = row_begins_still plan s.words words (row_in word) content t.1 is.begins }
+      let t = still_published (row_in word) is.published in record { published = t.0; begins = row_begins_still plan s.words words (row_in word) content t.1 is.begins; fixed = leaves.fixed (row_in word) is.published.1 ∙ is.fixed }
 
   pub page_word_still : (word : ℕ) (page : Option PlainPage) → PageWordIs plan h.owners s.words word page → PageWordIs plan new words word page
   page_word_still word None is = is
@@ -70,12 +71,13 @@ module _ (plan : Plan) (s : State ℕ View) (tree_state then : TreeState) (h : I
         behind = is.behind;
         published = t.0;
         begins = row_begins_still plan s.words words (row_in word) (page_words is.base ++ is.behind) t.1 is.begins;
+        fixed = leaves.fixed (row_in word) is.published.1 ∙ is.fixed;
         version = is.version;
       }
 
   pub reads_still : (reads : Option (ℕ × List ℕ)) (behind : List ℕ) → ReadsRow plan h.owners s.words reads behind → ReadsRow plan new words reads behind
   reads_still None behind is = tt
-  reads_still (Some (row, content)) behind is = let t = still_published row is.0 in (t.0, row_begins_still plan s.words words row (content ++ behind) t.1 is.1)
+  reads_still (Some (row, content)) behind is = let t = still_published row is.0 in (t.0, row_begins_still plan s.words words row (content ++ behind) t.1 is.1, (let same = leaves.fixed row is.0.1 in let all = is.2 in omega (arith, same, all)))
 
   pub seat_reads_still : (v : View) → Reads plan h.owners s.words tree_state v → Reads plan new words then v
   seat_reads_still v is = (

@@ -1,5 +1,5 @@
 -- Rows, page numbers and keys get other owners; the words and the tree state stay as they are.
-use Rattle.std.proofs.Common.{◌≡◌, ℕ, suc, ◌≤◌, Option, Some, None, List, length, refl, sym, ◌∙◌, arith, subst}
+use Rattle.std.proofs.Common.{◌≡◌, ℕ, suc, ◌≤◌, Option, Some, None, List, ◌++◌, length, refl, sym, ap, ◌∙◌, arith, subst}
 use Rattle.std.specs.Prelude.{slice_index}
 use mathlib.Core.Option.{some}
 use lib.ListN.{get_elem?}
@@ -15,16 +15,18 @@ use Rattle.blink_live.specs.declared.view.Share.{Share}
 use Rattle.blink_live.specs.declared.view.View.{View}
 use Rattle.blink_live.specs.Accounts.{AreAccounts}
 use Rattle.blink_live.specs.Reuse.{IsReuseSafe}
-use Rattle.blink_live.specs.Rule.{HasPool, Owners, PageWordIs, latch_word, Reads, ReadsRow, IsShare, IsInRole, Knows, AreCounted, IsTableAt}
+use Rattle.blink_live.specs.Rule.{AreNamedBy, HasPool, Owners, PageWordIs, latch_word, Reads, ReadsRow, IsShare, IsInRole, Knows, AreCounted, IsTableAt}
 use Rattle.blink_live.specs.Views.{IsCommon}
 use Rattle.blink_live.proofs.table.CallsOfSeats.{call_still}
 use Rattle.blink_live.proofs.table.LooksStay.{looks_stay}
 use Rattle.blink_live.proofs.table.SparesOfSeats.{spare_still}
 use Rattle.blink_live.proofs.table.RowsAreNamed.{names_still, page_still_named}
 
--- what was published is
-abbrev pub StaysPublished : Owners → Owners → Type 0
-StaysPublished old new = (row : ℕ) → old.row row ≡ 0 → new.row row ≡ 0
+-- what was published is, and the same words are fixed
+pub record StaysPublished (old new : Owners) : Type 0 where
+  pub rows : (row : ℕ) → old.row row ≡ 0 → new.row row ≡ 0
+  pub fixed : new.fixed ≡ old.fixed
+  pub named_by : new.named_by ≡ old.named_by
 
 -- the seat owns what it did
 pub record StillOwns (old new : Owners) (seat : ℕ) : Type 0 where
@@ -37,16 +39,16 @@ pub record StillOwns (old new : Owners) (seat : ℕ) : Type 0 where
 module _ (plan : Plan) (old new : Owners) (words : List ℕ) (log : List Change) (published : StaysPublished old new) where
   page_still : (word : ℕ) (page : Option PlainPage) → PageWordIs plan old words word page → PageWordIs plan new words word page
   page_still word None is = is
-  page_still word (Some page) is = page_still_named plan old new words word page (published (row_in word) is.published.1) is
+  page_still word (Some page) is = page_still_named plan old new words word page (published.rows (row_in word) is.published.1) (ap (λ (f : ℕ → ℕ). f (row_in word)) published.fixed) is
 
   pub reads_still : (reads : Option (ℕ × List ℕ)) (behind : List ℕ) → ReadsRow plan old words reads behind → ReadsRow plan new words reads behind
   reads_still None behind is = is
-  reads_still (Some (row, content)) behind is = ((is.0.0, published row is.0.1), is.1)
+  reads_still (Some (row, content)) behind is = ((is.0.0, published.rows row is.0.1), is.1, subst (λ (f : ℕ → ℕ). length (content ++ behind) ≤ f row) (sym published.fixed) is.2)
 
   pub seat_reads_still : (tree_state : TreeState) (v : View) → Reads plan old words tree_state v → Reads plan new words tree_state v
   seat_reads_still tree_state v is = (
     reads_still v.reads v.behind is.0,
-    looks_stay plan old.row new.row words words tree_state.fan tree_state.fan tree_state.prime tree_state.prime tree_state.pages tree_state.pages v.look (λ number word has in_range. published (row_in word)) (λ number in_chain. in_chain)
+    looks_stay plan old.row new.row words words tree_state.fan tree_state.fan tree_state.prime tree_state.prime tree_state.pages tree_state.pages v.look (λ number word has in_range. published.rows (row_in word)) (λ number in_chain. in_chain)
         (λ number word least few unowned is. (is, refl)) is.1,
   )
 
@@ -100,8 +102,9 @@ owners_change plan s tree_state h new views published same_latch knows longer no
   prime_numbers = h.prime_numbers;
   bounded = h.bounded;
   width = h.width;
-  prime = names_still plan h.owners new s.words (slice_index s.words 0) (prime_words tree_state.prime) (published (row_in (slice_index s.words 0)) h.prime.published.1) h.prime;
+  prime = names_still plan h.owners new s.words (slice_index s.words 0) (prime_words tree_state.prime) (published.rows (row_in (slice_index s.words 0)) h.prime.published.1) (ap (λ (f : ℕ → ℕ). f (row_in (slice_index s.words 0))) published.fixed) h.prime;
   pages = λ number low high. page_still plan h.owners new s.words h.log published (slice_index s.words number) (tree_state.pages number) (h.pages number low high);
+  named_by = subst (λ (f : ℕ → ℕ). AreNamedBy plan.counts f s.words) (sym published.named_by) h.named_by;
   no_other_page = h.no_other_page;
   no_other_latch = h.no_other_latch;
   latches = λ number inside. h.latches number inside ∙ latch_still h.owners new (tree_state.holder number) (same_latch number);

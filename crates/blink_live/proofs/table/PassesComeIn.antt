@@ -33,6 +33,8 @@ owners_after old other owner = record {
   key = λ key. if old.key key == suc other then owner else old.key key;
   latch_number = old.latch_number;
   place = old.place;
+  fixed = old.fixed;
+  named_by = old.named_by;
 }
 
 module _ (plan : Plan) (some_number : 1 ≤ plan.counts.numbers) (s : State ℕ View) (tree_state : TreeState) (h : IsTableAt plan s tree_state) (id other : ℕ) (v w : View) (taken : List ℕ) (shares : List Share) (seen : List Change) (owner : ℕ)
@@ -69,7 +71,7 @@ module _ (plan : Plan) (some_number : 1 ≤ plan.counts.numbers) (s : State ℕ 
   key_kept key is = key_else key 1 is (λ e. let first : id ≡ 0 = in_role.0 in apart (omega (arith, e, first)))
 
   pub published : StaysPublished old new
-  published row is = is
+  published = record { rows = λ row is. is; fixed = refl; named_by = refl }
 
   -- ---- the keeper
 

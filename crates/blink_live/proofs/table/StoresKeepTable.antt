@@ -17,7 +17,7 @@ use Rattle.blink_live.specs.declared.view.View.{View}
 use Rattle.blink_live.specs.Changes.{after}
 use Rattle.blink_live.specs.Accounts.{AreAccounts}
 use Rattle.blink_live.specs.Reuse.{IsReuseSafe}
-use Rattle.blink_live.specs.Rule.{Owners, Names, PageWordIs, latch_word, HasForCall, Knows, IsTableAt, IsTable}
+use Rattle.blink_live.specs.Rule.{AreNamedBy, Owners, Names, PageWordIs, latch_word, HasForCall, Knows, IsTableAt, IsTable}
 use Rattle.blink_live.specs.Views.{IsCommon}
 use Rattle.blink_page.specs.{IsPageNumber}
 use Rattle.blink_live.proofs.table.OthersKnowTheSame.{RowStays, row_begins_still, LeavesOthers, word_names_still, other_knows}
@@ -46,6 +46,7 @@ pub record IsStored (plan : Plan) (s : State ℕ View) (tree_state then : TreeSt
   pub prime_numbers : All IsPageNumber then.prime
   pub prime : Names plan new words (slice_index words 0) (prime_words then.prime)
   pub pages : (number : ℕ) → 1 ≤ number → number < plan.counts.numbers → PageWordIs plan new words (slice_index words number) (then.pages number)
+  pub named_by : AreNamedBy plan.counts new.named_by words
   pub no_other_page : (number : ℕ) → plan.counts.numbers ≤ number → then.pages number ≡ None
   pub no_other_latch : (number : ℕ) → plan.counts.numbers ≤ number → then.holder number ≡ None
   pub latches : (number : ℕ) → number < plan.counts.numbers → slice_index words (plan.counts.numbers + number) ≡ latch_word new (then.holder number)
@@ -78,6 +79,7 @@ module _ (plan : Plan) (s : State ℕ View) (tree_state then : TreeState) (h : I
           width = length-set s.words place x ∙ h.width;
           prime = stored.prime;
           pages = stored.pages;
+          named_by = stored.named_by;
           no_other_page = stored.no_other_page;
           no_other_latch = stored.no_other_latch;
           latches = stored.latches;

@@ -64,7 +64,7 @@ module _ (plan : Plan) (some_number : 1 ≤ plan.counts.numbers) (s : State ℕ 
         }
 
     recorded : IsTableAt plan record { words = s.words; homes = s.homes; views = views_then } tree_state
-    recorded = owners_change plan s tree_state h h.owners views_then (λ row is. is) (λ number seat holds. refl) all_know
+    recorded = owners_change plan s tree_state h h.owners views_then (record { rows = λ row is. is; fixed = refl; named_by = refl }) (λ number seat holds. refl) all_know
         (let longer : length views_then ≡ length s.views + 1 = length-append s.views (note_of v ∷ []) in omega (arith, longer)) h.nobodys h.pool
         (λ common. accounts_longer plan h.owners.place h.log s.views (note_of v) (λ account has. let none = has.1 in absurd (omega (arith, none))) none_apart (λ is. absurd (cc)) (h.accounted common))
         (λ common. reuse_longer plan h.owners.row s.words s.views (note_of v) refl refl refl (h.reuse common)) counted_then
@@ -111,7 +111,7 @@ module _ (plan : Plan) (some_number : 1 ≤ plan.counts.numbers) (s : State ℕ 
         (at_set s.views id seat both u at_seat))
 
     heard : IsTableAt plan record { words = s.words; homes = s.homes; views = taken } tree_state
-    heard = owners_change plan s tree_state h h.owners taken (λ row is. is) (λ number seat holds. refl) taken_know
+    heard = owners_change plan s tree_state h h.owners taken (record { rows = λ row is. is; fixed = refl; named_by = refl }) (λ number seat holds. refl) taken_know
         (let one : length (set s.views id both) ≡ length s.views = length-set s.views id both in
         let two : length taken ≡ length (set s.views id both) = length-set (set s.views id both) other (spent plan) in
         omega (arith, one, two)) h.nobodys h.pool
