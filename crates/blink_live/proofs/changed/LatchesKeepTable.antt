@@ -1,5 +1,5 @@
 -- A latch that is got is the tree's step, and keeps the rule.
-use Rattle.std.proofs.Common.{◌≡◌, ℕ, suc, ◌+◌, ◌<◌, ◌≤◌, Option, Some, None, List, set, refl, sym, ap, ◌∙◌, subst, get_or-set_same, get_or-set_other, arith}
+use Rattle.std.proofs.Common.{◌≡◌, ◌≢◌, ℕ, suc, ◌+◌, ◌<◌, ◌≤◌, Option, Some, None, List, set, refl, sym, ap, ◌∙◌, subst, get_or-set_same, get_or-set_other, arith}
 use Rattle.std.specs.Prelude.{slice_index}
 use mathlib.Core.Option.{some, none}
 use mathlib.Core.Logic.{dite}
@@ -25,7 +25,7 @@ use Rattle.blink_live.specs.Changes.{put}
 use Rattle.blink_live.specs.Rule.{Owners, PageWordIs, latch_word, IsInRole, IsBoundedWay, Knows, IsTableAt, IsTable}
 use Rattle.blink_live.specs.AtomicSteps.{GoesOn, CanGoOn, tries_latch, lets_go}
 use Rattle.blink_live.specs.Views.{SeatState, going_on, latch_number_by}
-use Rattle.blink_live.specs.Words.{place_word, word_count}
+use Rattle.blink_live.specs.Words.{named_row, place_word, word_count}
 use Rattle.blink_live.proofs.found.OperationBegins.{goes_on_as}
 use Rattle.blink_live.proofs.table.PoolStays.{pool_stays}
 use Rattle.blink_live.proofs.table.MapsWithOneChange.{put_here, put_else}
@@ -47,7 +47,7 @@ abbrev pub passed : TreeState → ℕ → Option ℕ → ℕ → Option PlainMac
 passed tree_state number holder worker operation = record tree_state { holder = put tree_state.holder number holder; machines = put tree_state.machines worker operation }
 
 module _ (plan : Plan) (s : State ℕ View) (tree_state : TreeState) (h : IsTableAt plan s tree_state) (id number x way : ℕ) (v : View) (after : PlainMachine) (holder : Option ℕ) (at : get_elem? s.views id ≡ some v) (role : v.role ≡ Pass) (under : (m : PlainMachine) × (v.operation ≡ Some m))
-    (in_range : number < plan.counts.numbers) where
+    (in_range : number < plan.counts.numbers) (nobody_elses : (seat : ℕ) → seat ≢ id → tree_state.holder number ≢ Some seat) where
   abbrev pub then : TreeState
   then = passed tree_state number holder id (goes_on after after.state)
 
@@ -68,8 +68,13 @@ module _ (plan : Plan) (s : State ℕ View) (tree_state : TreeState) (h : IsTabl
   leaves = record {
     machines = λ seat other. put_else tree_state.machines id seat (goes_on after after.state) other;
     ways = λ seat m other is. refl;
-    rows = λ row least most apart shared. (refl, row_stays plan s.words (plan.counts.numbers + number) x row (omega (arith, in_range)));
+    rows = λ row least most apart shared. (refl, λ i inside few. row_stays plan s.words (plan.counts.numbers + number) x row (omega (arith, in_range)) i inside);
     fixed = λ row unowned. refl;
+    latched = λ seat n other holds least few published. (
+      put_else tree_state.holder number n holder (λ same. nobody_elses seat other (ap tree_state.holder (sym same) ∙ holds)) ∙ holds,
+      get_or-set_other s.words (plan.counts.numbers + number) n x 0 (λ e. omega (arith, e, few)),
+      row_stays plan s.words (plan.counts.numbers + number) x (named_row s.words n) (omega (arith, in_range)),
+    );
     numbers = λ n apart shared. (refl, λ free. free);
     keys = λ owned key apart. (refl, refl, refl);
     nobodys = h.nobodys;
@@ -174,7 +179,7 @@ latch_is_tried plan slots id number me m role at_m fits needs in_range some_latc
       going_on me.0 after way,
       keeps,
       tt,
-      passes_latch plan s tree_state h id number x way me.0 after (Some id) at role (m, at_m) in_range invariant (λ other is. ap (descent_bound tree_state.pages) (sym (goes_on_as after after.state other is))) (sym kept.1)
+      passes_latch plan s tree_state h id number x way me.0 after (Some id) at role (m, at_m) in_range (λ seat other holds. let is : None ≡ Some seat = sym nobody ∙ holds in cc) invariant (λ other is. ap (descent_bound tree_state.pages) (sym (goes_on_as after after.state other is))) (sym kept.1)
           (λ seat is. let same : id ≡ seat = cc in subst (λ (j : ℕ). 1 ≤ h.owners.latch_number j) same (subst (λ (n : ℕ). 1 ≤ n) (sym kept.1) some_latch)),
       λ k n at_k needs_k is. record {
         got = λ none_found.
@@ -185,7 +190,7 @@ latch_is_tried plan slots id number me m role at_m fits needs in_range some_latc
             (record {
               way = way;
               is = refl;
-              next = next_there plan s tree_state h id number x way me.0 after (Some id) at role (m, at_m) in_range invariant;
+              next = next_there plan s tree_state h id number x way me.0 after (Some id) at role (m, at_m) in_range (λ seat other holds. let is : None ≡ Some seat = sym nobody ∙ holds in cc) invariant;
               uses = step_law.allowance_is_used_up.by_step tree_state new id m after (Moved (kind.Latch number)) h.invariant fits its stepped_so;
               answers_at_end = λ ends. has_answer_at_end tree_state h.invariant id m after its ends (Moved (kind.Latch number)) new stepped_so;
             });
@@ -211,6 +216,7 @@ latch_is_let_go plan slots id number me m role at_m fits needs in_range s table 
     let after : PlainMachine = done m 0 in
     let under : tree_state.machines id ≡ Some m = known.operation ∙ at_m in
     let its : IsItsOperation tree_state id m = under_way under in
+    let held : tree_state.holder number ≡ Some id = (step_law.invariant_gives_order tree_state h.invariant).unlatches id number m its needs in
     let new : TreeState = passed tree_state number None id (goes_on after after.state) in
     let way : ℕ = descent_bound tree_state.pages after in
     let stepped_so : Steps tree_state id m (Moved (kind.Unlatch number)) after new = unlatches number needs refl refl refl refl refl
@@ -220,7 +226,7 @@ latch_is_let_go plan slots id number me m role at_m fits needs in_range s table 
       going_on me.0 after way,
       keeps,
       tt,
-      passes_latch plan s tree_state h id number 0 way me.0 after None at role (m, at_m) in_range invariant (λ other is. ap (descent_bound tree_state.pages) (sym (goes_on_as after after.state other is))) refl (λ seat is. absurd (cc)),
+      passes_latch plan s tree_state h id number 0 way me.0 after None at role (m, at_m) in_range (λ seat other holds. other (let is : Some seat ≡ Some id = sym holds ∙ held in cc)) invariant (λ other is. ap (descent_bound tree_state.pages) (sym (goes_on_as after after.state other is))) refl (λ seat is. absurd (cc)),
       λ k n at_k needs_k is.
           let same : m ≡ k = cc in
           let one : Unlatch number ≡ Unlatch n = sym needs ∙ (ap (λ (j : PlainMachine). need_at j.state) same ∙ needs_k) in
@@ -229,7 +235,7 @@ latch_is_let_go plan slots id number me m role at_m fits needs in_range s table 
           (record {
             way = way;
             is = refl;
-            next = next_there plan s tree_state h id number 0 way me.0 after None at role (m, at_m) in_range invariant;
+            next = next_there plan s tree_state h id number 0 way me.0 after None at role (m, at_m) in_range (λ seat other holds. other (let is : Some seat ≡ Some id = sym holds ∙ held in cc)) invariant;
             uses = step_law.allowance_is_used_up.by_step tree_state new id m after (Moved (kind.Unlatch number)) h.invariant fits its stepped_so;
             answers_at_end = λ ends. has_answer_at_end tree_state h.invariant id m after its ends (Moved (kind.Unlatch number)) new stepped_so;
           }),

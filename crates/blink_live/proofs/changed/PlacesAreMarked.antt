@@ -13,7 +13,7 @@ use Rattle.blink_live.specs.Accounts.{HaveAuthors}
 use Rattle.blink_live.specs.AtomicSteps.{marks_place}
 use Rattle.blink_live.specs.Rule.{HasPlace, PageWordIs, IsInRole, Knows, IsTableAt, IsTable}
 use Rattle.blink_live.specs.Views.{IsCommon, SeatState, is_busy}
-use Rattle.blink_live.specs.Words.{place_word, row_start, word_count}
+use Rattle.blink_live.specs.Words.{named_row, place_word, row_start, word_count}
 use Rattle.blink_live.proofs.table.PoolStays.{pool_stays}
 use Rattle.blink_live.proofs.reuse.ReuseStaysSafe.{hand_stays, holds_nothing, reuse_stays}
 use Rattle.blink_live.proofs.table.LooksStay.{nothing_noted}
@@ -57,8 +57,9 @@ module _ (plan : Plan) (s : State ℕ View) (tree_state : TreeState) (h : IsTabl
   leaves = record {
     machines = λ seat other. refl;
     ways = λ seat m other is. refl;
-    rows = λ row least most apart shared. (refl, stays row least most);
+    rows = λ row least most apart shared. (refl, λ i inside few. stays row least most i inside);
     fixed = λ row unowned. refl;
+    latched = λ seat n other holds least few published. (holds, before n (omega (arith, few)), stays (named_row s.words n) published.0.0 published.0.1);
     numbers = λ n apart shared. (refl, λ free. free);
     keys = λ owned key apart. (refl, refl, refl);
     nobodys = h.nobodys;

@@ -19,7 +19,7 @@ use Rattle.blink_live.specs.Reuse.{IsAtHand, IsReuseSafe}
 use Rattle.blink_live.specs.Accounts.{AreAccounts}
 use Rattle.blink_live.specs.Rule.{AreNamedBy, latch_word, HasNumbers, HasRows, HasSpare, Owners, PageWordIs, IsInRole, Knows, IsTableAt, IsTable}
 use Rattle.blink_live.specs.Views.{IsCommon, SeatState, has_pages, has_rows, latch_in, no_call, span}
-use Rattle.blink_live.specs.Words.{place_word, pool_page, pool_row, row_start, word_count}
+use Rattle.blink_live.specs.Words.{named_row, place_word, pool_page, pool_row, row_start, word_count}
 use Rattle.blink_live.proofs.table.CallsOfSeats.{nothing_for_call}
 use Rattle.blink_live.proofs.reuse.ReuseStaysSafe.{reuse_beside, reuse_stays, same_reads}
 use Rattle.blink_live.proofs.table.AccountsStay.{accounts_stay}
@@ -102,8 +102,9 @@ module _ (plan : Plan) (s : State ℕ View) (tree_state : TreeState) (h : IsTabl
     rows_leave = record {
       machines = λ seat other. refl;
       ways = λ seat m other is. refl;
-      rows = λ row least most apart shared. (row_else row (shared common), stays 1 (omega arith) (omega arith) row least most);
+      rows = λ row least most apart shared. (row_else row (shared common), λ i inside few. stays 1 (omega arith) (omega arith) row least most i inside);
       fixed = λ row unowned. refl;
+      latched = λ seat n other holds least few published. (holds, before 1 (omega arith) (omega arith) n (omega (arith, few)), stays 1 (omega arith) (omega arith) (named_row s.words n) published.0.0 published.0.1);
       numbers = λ number apart shared. (refl, λ free. free);
       keys = λ owned key apart. (refl, refl, refl);
       nobodys = h.nobodys;
@@ -174,8 +175,9 @@ module _ (plan : Plan) (s : State ℕ View) (tree_state : TreeState) (h : IsTabl
     pages_leave = record {
       machines = λ seat other. refl;
       ways = λ seat m other is. refl;
-      rows = λ row least most apart shared. (refl, stays 2 (omega arith) (omega arith) row least most);
+      rows = λ row least most apart shared. (refl, λ i inside few. stays 2 (omega arith) (omega arith) row least most i inside);
       fixed = λ row unowned. refl;
+      latched = λ seat n other holds least few published. (holds, before 2 (omega arith) (omega arith) n (omega (arith, few)), stays 2 (omega arith) (omega arith) (named_row s.words n) published.0.0 published.0.1);
       numbers = λ number apart shared. (page_else number (shared common), λ free. free);
       keys = λ owned key apart. (refl, refl, refl);
       nobodys = h.nobodys;

@@ -241,15 +241,16 @@ module _ (plan : Plan) (s : State ℕ View) (tree_state : TreeState) (h : IsTabl
   numbers_else : (numbers : Span) → ((n : ℕ) → numbers.next ≤ n → n < numbers.stop → n ≢ number) → HasNumbers plan h.owners tree_state (suc id) numbers → HasNumbers plan h.owners after_write (suc id) numbers
   numbers_else numbers differ has = record { in_range = has.in_range; own = has.own; free = λ n low high. free_else n (differ n low high) (has.free n low high) }
 
-  tree_written : Rattle.blink_machine.specs.Invariant.Invariant after_write → Rattle.blink_machine.specs.Places.KeepsPlaces tree_state.pages after_write.pages
+  tree_written : ((tree_state.holder number ≡ Some id) ⊎ (tree_state.pages number ≡ None)) → Rattle.blink_machine.specs.Invariant.Invariant after_write → Rattle.blink_machine.specs.Places.KeepsPlaces tree_state.pages after_write.pages
       → ((n : ℕ) → IsLeafInChain tree_state.fan tree_state.prime tree_state.pages n → IsLeafInChain after_write.fan after_write.prime after_write.pages n)
       → ((n : ℕ) → h.owners.page n ≢ suc id → tree_state.pages n ≡ None → n ≢ number)
       → HasNumbers plan h.owners after_write (suc id) v.pages → HasNumbers plan h.owners after_write (suc id) pages → pages.stop ≤ v.pages.next
       → stock.spare ≡ v.stock.spare → HasSpare plan h.owners after_write (suc id) v.stock.spare v.pages.next pages
       → IsStepOfTree plan s tree_state after_write h id number way v after_it (page_words page) pages stock at role
-  tree_written invariant places in_chain apart own_free call_free call_before same_spare spare_free = record {
+  tree_written own invariant places in_chain apart own_free call_free call_before same_spare spare_free = record {
     same_fan = refl;
     same_holder = λ n. refl;
+    its_to_write = λ least. own;
     own = put_here tree_state.machines id (goes_on after_it after_it.state);
     others = λ seat ne. put_else tree_state.machines id seat (goes_on after_it after_it.state) ne;
     invariant = invariant;
@@ -298,7 +299,7 @@ page_becomes_published plan s table id number me m at role at_m fits needs some_
     let differs : (n : ℕ) → tree_state.pages n ≡ None → n ≢ number = λ n none_there same. let there : tree_state.pages n ≡ Some well.before = ap tree_state.pages same ∙ well.there in cc in
     let way : ℕ = descent_bound then.pages after_it in
     let out : Stock = takes_out (named_row s.words number) me.0.stock in
-    let tree = tree_written plan s tree_state h id number way me.0 after_it page me.0.call.pages out at role some_number in_range invariant places
+    let tree = tree_written plan s tree_state h id number way me.0 after_it page me.0.call.pages out at role some_number in_range (inl well.latched) invariant places
     (leaves_stay tree_state then id m after_it h.invariant invariant its workers places (λ n unlinked. absurd (none_after_write m number n needs unlinked))) (λ n not_own none_there. differs n none_there)
     (numbers_else plan s tree_state h id number way me.0 after_it page me.0.call.pages out at role some_number in_range me.0.pages (λ n low high. differs n (known.numbers.free n low high)) known.numbers)
     (numbers_else plan s tree_state h id number way me.0 after_it page me.0.call.pages out at role some_number in_range me.0.call.pages (λ n low high. differs n (known.for_call.numbers.free n low high)) known.for_call.numbers)
@@ -354,7 +355,7 @@ new_becomes_published plan s table id me m at role at_m fits needs number_left r
     let places = step_law.places_stay.stay tree_state then id m after_it (Moved (kinds.WritePage number)) h.invariant its stepped in
     let way : ℕ = descent_bound then.pages after_it in
     let before = known.for_call.before.1 in
-    let tree = tree_written plan s tree_state h id number way me.0 after_it page rest me.0.stock at role some_number in_range invariant places
+    let tree = tree_written plan s tree_state h id number way me.0 after_it page rest me.0.stock at role some_number in_range (inr none_there) invariant places
     (leaves_stay tree_state then id m after_it h.invariant invariant its workers places (λ n unlinked. ap tree_state.pages (sym (new_is_unlinked m number n needs unlinked)) ∙ none_there)) (λ n not_own free same. not_own (ap h.owners.page same ∙ numbers.own number (omega arith) number_left))
     (numbers_else plan s tree_state h id number way me.0 after_it page rest me.0.stock at role some_number in_range me.0.pages (λ n low high same. omega (arith, low, same, before, number_left)) known.numbers)
     (numbers_else plan s tree_state h id number way me.0 after_it page rest me.0.stock at role some_number in_range rest (λ n low high same. omega (arith, low, same))
@@ -405,6 +406,7 @@ prime_becomes_published plan s table id me m prime at role at_m fits needs out s
     let tree : IsStepOfTree plan s tree_state then h id 0 way me.0 after_it (prime_words prime) me.0.call.pages (takes_out (named_row s.words 0) me.0.stock) at role = record {
       same_fan = refl;
       same_holder = λ n. refl;
+      its_to_write = λ least. absurd (omega (arith, least));
       own = put_here tree_state.machines id (goes_on after_it after_it.state);
       others = λ seat ne. put_else tree_state.machines id seat (goes_on after_it after_it.state) ne;
       invariant = invariant;

@@ -1,5 +1,5 @@
 -- A word that names a row of one's own publishes it: where the tree takes the step, the rule is kept.
-use Rattle.std.proofs.Common.{◌≡◌, ◌≢◌, ℕ, zero, suc, ◌+◌, ◌<◌, ◌≤◌, Option, Some, None, List, [], ◌++◌, set, refl, sym, ap, ◌∙◌, subst, get_or-set_same, get_or-set_other, append_assoc, arith, length}
+use Rattle.std.proofs.Common.{◌≡◌, ◌≢◌, ◌⊎◌, ℕ, zero, suc, ◌+◌, ◌<◌, ◌≤◌, Option, Some, None, List, [], ◌++◌, set, refl, sym, ap, ◌∙◌, subst, get_or-set_same, get_or-set_other, append_assoc, arith, length, ⊎_elim}
 use Rattle.std.specs.Prelude.{slice_index, All}
 use mathlib.Core.Option.{some}
 use mathlib.Core.List.{append-nil}
@@ -36,7 +36,7 @@ use Rattle.blink_live.proofs.reuse.RowsAreTakenOut.{word_is_published}
 use Rattle.blink_live.proofs.changed.ChangesAreTheMaps.{after-append, states_of-append}
 use Rattle.blink_live.proofs.table.PoolStays.{pool_stays}
 use Rattle.blink_live.proofs.table.MapsWithOneChange.{put_here, put_else}
-use Rattle.blink_live.proofs.table.RowsAreNamed.{names_its_page, names_its_row, row_names_itself}
+use Rattle.blink_live.proofs.table.RowsAreNamed.{no_row_in_0, names_its_page, names_its_row, row_names_itself}
 use Rattle.blink_live.proofs.table.OthersKnowTheSame.{LeavesOthers, RowStays, page_word_still, seat_reads_still}
 use Rattle.blink_live.proofs.table.AccountsStay.{AreBy, accounts_grow}
 use Rattle.blink_live.proofs.table.StoresKeepTable.{row_stays, IsStored, prime_still, store_keeps}
@@ -61,6 +61,7 @@ module _ (plan : Plan) (s : State ℕ View) (tree_state then : TreeState) (h : I
   pub record IsStepOfTree : Type 0 where
     pub same_fan : then.fan ≡ tree_state.fan
     pub same_holder : (n : ℕ) → then.holder n ≡ tree_state.holder n
+    pub its_to_write : 1 ≤ number → (tree_state.holder number ≡ Some id) ⊎ (tree_state.pages number ≡ None)
     pub own : then.machines id ≡ goes_on after_it after_it.state
     pub others : (seat : ℕ) → seat ≢ id → then.machines seat ≡ tree_state.machines seat
     pub invariant : Invariant then
@@ -129,12 +130,27 @@ module _ (plan : Plan) (s : State ℕ View) (tree_state then : TreeState) (h : I
       not_its_row : (row : ℕ) → h.owners.row row ≡ 0 → row ≢ v.call.rows.next
       not_its_row row unowned same = let one : 0 ≡ suc id = sym unowned ∙ (ap h.owners.row same ∙ (known.for_call.first_own room).1) in omega (arith, one)
 
+      -- nobody else holds the latch of the page
+      not_anothers : (seat : ℕ) → seat ≢ id → tree_state.holder number ≡ Some seat → 1 ≤ number → ¬ IsPublished plan h.owners (named_row s.words number)
+      not_anothers seat other holds least is = ⊎_elim
+          (λ (own : tree_state.holder number ≡ Some id). other (let same : Some seat ≡ Some id = sym holds ∙ own in cc))
+          (λ (free : tree_state.pages number ≡ None).
+          let none : slice_index s.words number ≡ 0 = subst (PageWordIs plan h.owners s.words (slice_index s.words number)) free (h.pages number least in_range) in
+          let some : 1 ≤ row_in (slice_index s.words number) = is.0.0 in
+          let zero_is : row_in (slice_index s.words number) ≡ 0 = ap row_in none ∙ no_row_in_0 in
+          omega (arith, some, zero_is)) (step.its_to_write least)
+
       leaves : LeavesOthers plan s tree_state then h id words new log
       leaves = record {
         machines = step.others;
         ways = λ seat m apart is. ways_stay tree_state then.pages seat m h.invariant step.places is;
-        rows = λ row least most apart shared. (put_else h.owners.row v.call.rows.next row 0 (λ same. apart (ap h.owners.row same ∙ (known.for_call.first_own room).1)), stays row);
+        rows = λ row least most apart shared. (put_else h.owners.row v.call.rows.next row 0 (λ same. apart (ap h.owners.row same ∙ (known.for_call.first_own room).1)), λ i inside few. stays row i inside);
         fixed = λ row unowned. put_else h.owners.fixed v.call.rows.next row (length content) (not_its_row row unowned);
+        latched = λ seat n other holds least few is. (
+          step.same_holder n ∙ holds,
+          get_or-set_other s.words number n v.call.rows.next 0 (λ same. not_anothers seat other (ap tree_state.holder (sym same) ∙ holds) (subst (λ (k : ℕ). 1 ≤ k) same least) (subst (λ (k : ℕ). IsPublished plan h.owners (named_row s.words k)) same is)),
+          stays (named_row s.words n),
+        );
         numbers = λ n apart shared. (refl, step.others_free n apart);
         keys = λ owned key apart. (
           refl,

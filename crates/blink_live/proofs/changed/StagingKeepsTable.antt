@@ -15,7 +15,7 @@ use Rattle.blink_machine.proofs.Offered.{step_law}
 use Rattle.blink_live.specs.AtomicSteps.{knows_more, stores_word}
 use Rattle.blink_live.specs.Rule.{PageWordIs, IsInRole, Knows, IsTableAt, IsTable}
 use Rattle.blink_live.specs.Views.{SeatState, knows_word, stage_word}
-use Rattle.blink_live.specs.Words.{row_start, RowBegins, place_word, word_count}
+use Rattle.blink_live.specs.Words.{named_row, row_start, RowBegins, place_word, word_count}
 use Rattle.blink_live.proofs.table.PoolStays.{pool_stays}
 use Rattle.blink_live.proofs.reuse.ReuseStaysSafe.{hand_stays, reuse_stays, same_reads}
 use Rattle.blink_live.proofs.table.AccountsStay.{accounts_stay}
@@ -75,8 +75,13 @@ module _ (plan : Plan) (s : State ℕ View) (tree_state : TreeState) (h : IsTabl
   leaves = record {
     machines = λ seat other. refl;
     ways = λ seat m other is. refl;
-    rows = λ r least most apart shared. (refl, other_row_stays plan s.words row r i x some_row least (λ same. apart (ap h.owners.row same ∙ (known.for_call.first_own room).1)) inside);
+    rows = λ r least most apart shared. (refl, λ k below few. other_row_stays plan s.words row r i x some_row least (λ same. apart (ap h.owners.row same ∙ (known.for_call.first_own room).1)) inside k below);
     fixed = λ row unowned. refl;
+    latched = λ seat n other holds least few published. (
+      holds,
+      get_or-set_other s.words place n x 0 (λ e. omega (arith, e, few)),
+      other_row_stays plan s.words row (named_row s.words n) i x some_row published.0.0 (λ same. let zero_is : 0 ≡ suc id = sym published.1 ∙ (ap h.owners.row same ∙ (known.for_call.first_own room).1) in omega (arith, zero_is)) inside,
+    );
     numbers = λ n apart shared. (refl, λ free. free);
     keys = λ owned key apart. (refl, refl, refl);
     nobodys = h.nobodys;

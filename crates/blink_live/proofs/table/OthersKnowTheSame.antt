@@ -24,7 +24,7 @@ use Rattle.blink_live.specs.Changes.{after, states_of}
 use Rattle.blink_live.specs.Looks.{IsLeafInChain}
 use Rattle.blink_live.specs.Rule.{HasNothing, HasPool, Owners, IsPublished, PageWordIs, Reads, ReadsRow, HasRows, HasNumbers, HasForCall, HasSpare, IsShare, IsInRole, Knows, IsTableAt, Names}
 use Rattle.blink_live.specs.Views.{IsCommon, IsOwned, span}
-use Rattle.blink_live.specs.Words.{place_word, row_start, RowBegins}
+use Rattle.blink_live.specs.Words.{named_row, place_word, row_start, RowBegins}
 use Rattle.blink_live.proofs.table.LooksStay.{looks_stay}
 
 -- the words of a row stay
@@ -34,12 +34,19 @@ RowStays plan old new row = (i : ℕ) → i < ROW_WORDS → slice_index new (row
 pub row_begins_still : (plan : Plan) (old new : List ℕ) (row : ℕ) (content : List ℕ) → RowStays plan old new row → RowBegins plan.counts old row content → RowBegins plan.counts new row content
 row_begins_still plan old new row content stays is i inside few = stays i inside ∙ is i inside few
 
+-- the words of a row that nobody may store to stay: of a published row those that are fixed
+abbrev pub FixedStay : Plan → Owners → List ℕ → List ℕ → ℕ → Type 0
+FixedStay plan owners old new row = (i : ℕ) → i < ROW_WORDS → (owners.row row ≡ 0 → i < owners.fixed row) → slice_index new (row_start plan.counts row + i) ≡ slice_index old (row_start plan.counts row + i)
+
 -- a step of the seat `id` after which words, tree state, owners and changes are these touches nothing that another seat has
 pub record LeavesOthers (plan : Plan) (s : State ℕ View) (tree_state then : TreeState) (h : IsTableAt plan s tree_state) (id : ℕ) (words : List ℕ) (new : Owners) (log : List Change) : Type 0 where
   pub machines : (seat : ℕ) → seat ≢ id → then.machines seat ≡ tree_state.machines seat
   pub ways : (seat : ℕ) (m : PlainMachine) → seat ≢ id → tree_state.machines seat ≡ Some m → descent_bound then.pages m ≡ descent_bound tree_state.pages m
-  pub rows : (row : ℕ) → 1 ≤ row → row ≤ plan.counts.rows → h.owners.row row ≢ suc id → (IsCommon plan → h.owners.row row ≢ suc 0) → (new.row row ≡ h.owners.row row) × RowStays plan s.words words row
+  pub rows : (row : ℕ) → 1 ≤ row → row ≤ plan.counts.rows → h.owners.row row ≢ suc id → (IsCommon plan → h.owners.row row ≢ suc 0) → (new.row row ≡ h.owners.row row) × FixedStay plan h.owners s.words words row
   pub fixed : (row : ℕ) → h.owners.row row ≡ 0 → new.fixed row ≡ h.owners.fixed row
+  -- a page whose latch another seat holds stays latched, its word names the same row, and all words of this row stay
+  pub latched : (seat number : ℕ) → seat ≢ id → tree_state.holder number ≡ Some seat → 1 ≤ number → number < plan.counts.numbers → IsPublished plan h.owners (named_row s.words number)
+      → (then.holder number ≡ Some seat) × (slice_index words number ≡ slice_index s.words number) × RowStays plan s.words words (named_row s.words number)
   pub numbers : (number : ℕ) → h.owners.page number ≢ suc id → (IsCommon plan → h.owners.page number ≢ suc 0) → (new.page number ≡ h.owners.page number) × (tree_state.pages number ≡ None → then.pages number ≡ None)
   pub keys : IsOwned plan → (key : ℕ) → h.owners.key key ≢ suc id
       → (new.key key ≡ h.owners.key key) × (states_of key log ≡ states_of key h.log) × (after (pointer_of plan.opening) log key ≡ after (pointer_of plan.opening) h.log key)
@@ -54,14 +61,14 @@ pub record LeavesOthers (plan : Plan) (s : State ℕ View) (tree_state then : Tr
 
 module _ (plan : Plan) (s : State ℕ View) (tree_state then : TreeState) (h : IsTableAt plan s tree_state) (id : ℕ) (some_pass : 1 ≤ id) (words : List ℕ) (new : Owners) (log : List Change)
     (leaves : LeavesOthers plan s tree_state then h id words new log) where
-  pub still_published : (row : ℕ) → IsPublished plan h.owners row → IsPublished plan new row × RowStays plan s.words words row
+  pub still_published : (row : ℕ) → IsPublished plan h.owners row → IsPublished plan new row × FixedStay plan h.owners s.words words row
   still_published row is =
       let t = leaves.rows row is.0.0 is.0.1 (λ e. let zero_is : 0 ≡ suc id = sym is.1 ∙ e in absurd (omega (arith, zero_is))) (λ common e. let zero_is : 0 ≡ suc 0 = sym is.1 ∙ e in absurd (omega (arith, zero_is))) in
       ((is.0, t.0 ∙ is.1), t.1)
 
   pub word_names_still : (word : ℕ) (content : List ℕ) → Names plan h.owners s.words word content → Names plan new words word content
   word_names_still word content is =
-      let t = still_published (row_in word) is.published in record { published = t.0; begins = row_begins_still plan s.words words (row_in word) content t.1 is.begins; fixed = leaves.fixed (row_in word) is.published.1 ∙ is.fixed }
+      let t = still_published (row_in word) is.published in record { published = t.0; begins = λ i inside few. t.1 i inside (λ unowned. let all = is.fixed in omega (arith, all, few)) ∙ is.begins i inside few; fixed = leaves.fixed (row_in word) is.published.1 ∙ is.fixed }
 
   pub page_word_still : (word : ℕ) (page : Option PlainPage) → PageWordIs plan h.owners s.words word page → PageWordIs plan new words word page
   page_word_still word None is = is
@@ -70,14 +77,14 @@ module _ (plan : Plan) (s : State ℕ View) (tree_state then : TreeState) (h : I
         base = is.base;
         behind = is.behind;
         published = t.0;
-        begins = row_begins_still plan s.words words (row_in word) (page_words is.base ++ is.behind) t.1 is.begins;
+        begins = λ i inside few. t.1 i inside (λ unowned. let all = is.fixed in omega (arith, all, few)) ∙ is.begins i inside few;
         fixed = leaves.fixed (row_in word) is.published.1 ∙ is.fixed;
         version = is.version;
       }
 
   pub reads_still : (reads : Option (ℕ × List ℕ)) (behind : List ℕ) → ReadsRow plan h.owners s.words reads behind → ReadsRow plan new words reads behind
   reads_still None behind is = tt
-  reads_still (Some (row, content)) behind is = let t = still_published row is.0 in (t.0, row_begins_still plan s.words words row (content ++ behind) t.1 is.1, (let same = leaves.fixed row is.0.1 in let all = is.2 in omega (arith, same, all)))
+  reads_still (Some (row, content)) behind is = let t = still_published row is.0 in (t.0, (λ i inside few. t.1 i inside (λ unowned. let all = is.2 in omega (arith, all, few)) ∙ is.1 i inside few), (let same = leaves.fixed row is.0.1 in let all = is.2 in omega (arith, same, all)))
 
   pub seat_reads_still : (v : View) → Reads plan h.owners s.words tree_state v → Reads plan new words then v
   seat_reads_still v is = (
@@ -113,7 +120,7 @@ module _ (plan : Plan) (s : State ℕ View) (tree_state then : TreeState) (h : I
       staged = λ some_row.
           let own = has.first_own some_row in
           let most = has.others.in_range.1 in
-          row_begins_still plan s.words words v.call.rows.next v.call.staged (leaves.rows v.call.rows.next own.0 (omega (arith, some_row, most)) (λ e. apart (sym own.1 ∙ e)) (not_pools v.call.rows.next v.call.rows.stop v.call.rows.next (h.owners.row v.call.rows.next) (λ common first. (none common first).2) (omega arith) some_row own.1)).1 (has.staged some_row);
+          row_begins_still plan s.words words v.call.rows.next v.call.staged (λ i inside. (leaves.rows v.call.rows.next own.0 (omega (arith, some_row, most)) (λ e. apart (sym own.1 ∙ e)) (not_pools v.call.rows.next v.call.rows.stop v.call.rows.next (h.owners.row v.call.rows.next) (λ common first. (none common first).2) (omega arith) some_row own.1)).1 i inside (λ unowned. let zero_is : 0 ≡ suc seat = sym unowned ∙ own.1 in absurd (omega (arith, zero_is)))) (has.staged some_row);
       others = rows_still (span (suc v.call.rows.next) v.call.rows.stop) (λ common first. let empty = (none common first).2 in omega (arith, empty)) has.others;
       numbers = numbers_still v.call.pages (λ common first. (none common first).3) has.numbers;
     }
