@@ -23,3 +23,4 @@ pub mod PlacesAreMarked
 pub mod RoomComesBack
 pub mod PoolIsDrawn
 pub mod OperationsRest
+pub mod WordsAreAdded

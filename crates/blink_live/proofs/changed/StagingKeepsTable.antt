@@ -27,7 +27,7 @@ use Rattle.blink_live.proofs.table.StoresKeepTable.{prime_still, store_keeps}
 use Rattle.blink_live.proofs.table.SparesOfSeats.{spare_still}
 
 -- two rows have no place in common
-other_row_stays : (plan : Plan) (words : List ℕ) (row other i x : ℕ) → 1 ≤ row → 1 ≤ other → other ≢ row → i < ROW_WORDS → RowStays plan words (set words (row_start plan.counts row + i) x) other
+pub other_row_stays : (plan : Plan) (words : List ℕ) (row other i x : ℕ) → 1 ≤ row → 1 ≤ other → other ≢ row → i < ROW_WORDS → RowStays plan words (set words (row_start plan.counts row + i) x) other
 other_row_stays plan words row other i x some_row some_other differ inside k below = get_or-set_other words (row_start plan.counts row + i) (row_start plan.counts other + k) x 0 (λ e. differ (omega (arith, e, some_row, some_other, inside, below)))
 
 -- one more element at the end of a list
