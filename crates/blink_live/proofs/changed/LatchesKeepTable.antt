@@ -69,7 +69,7 @@ module _ (plan : Plan) (s : State ℕ View) (tree_state : TreeState) (h : IsTabl
     machines = λ seat other. put_else tree_state.machines id seat (goes_on after after.state) other;
     ways = λ seat m other is. refl;
     rows = λ row least most apart shared. (refl, λ i inside few. row_stays plan s.words (plan.counts.numbers + number) x row (omega (arith, in_range)) i inside);
-    fixed = λ row unowned. refl;
+    fixed = λ row unowned. omega arith;
     latched = λ seat n other holds least few published. (
       put_else tree_state.holder number n holder (λ same. nobody_elses seat other (ap tree_state.holder (sym same) ∙ holds)) ∙ holds,
       get_or-set_other s.words (plan.counts.numbers + number) n x 0 (λ e. omega (arith, e, few)),
@@ -119,11 +119,11 @@ module _ (plan : Plan) (s : State ℕ View) (tree_state : TreeState) (h : IsTabl
         same_fan = refl;
         invariant = invariant;
         prime_numbers = h.prime_numbers;
-        prime = prime_still plan s tree_state then h id (subst (IsInRole plan h.owners h.log id v) role (h.views id v at).in_role).0 words h.owners h.log leaves (get_or-set_other s.words place 0 x 0 (λ e. omega (arith, e, in_range))) refl;
+        prime = prime_still plan s tree_state then h id (subst (IsInRole plan h.owners h.log id v) role (h.views id v at).in_role).0 words h.owners h.log leaves (get_or-set_other s.words place 0 x 0 (λ e. omega (arith, e, in_range))) (λ unowned. refl) refl;
         pages = λ n least below.
             let other : slice_index words n ≡ slice_index s.words n = get_or-set_other s.words place n x 0 (λ e. omega (arith, e, below)) in
             subst (λ (word : ℕ). PageWordIs plan h.owners words word (tree_state.pages n)) (sym other)
-            (page_word_still plan s tree_state then h id (subst (IsInRole plan h.owners h.log id v) role (h.views id v at).in_role).0 words h.owners h.log leaves (slice_index s.words n) (tree_state.pages n) (h.pages n least below));
+            (page_word_still plan s tree_state then h id (subst (IsInRole plan h.owners h.log id v) role (h.views id v at).in_role).0 words h.owners h.log leaves (slice_index s.words n) (tree_state.pages n) (λ unowned. refl) (h.pages n least below));
         named_by = same_names plan.counts h.owners.named_by s.words words (λ n few. get_or-set_other s.words place n x 0 (λ e. omega (arith, e, few))) h.named_by;
         no_other_page = h.no_other_page;
         no_other_latch = λ n beyond. put_else tree_state.holder number n holder (λ same. omega (arith, same, beyond, in_range)) ∙ h.no_other_latch n beyond;

@@ -58,7 +58,7 @@ module _ (plan : Plan) (s : State ℕ View) (tree_state : TreeState) (h : IsTabl
     machines = λ seat other. refl;
     ways = λ seat m other is. refl;
     rows = λ row least most apart shared. (refl, λ i inside few. stays row least most i inside);
-    fixed = λ row unowned. refl;
+    fixed = λ row unowned. omega arith;
     latched = λ seat n other holds least few published. (holds, before n (omega (arith, few)), stays (named_row s.words n) published.0.0 published.0.1);
     numbers = λ n apart shared. (refl, λ free. free);
     keys = λ owned key apart. (refl, refl, refl);
@@ -102,9 +102,9 @@ module _ (plan : Plan) (s : State ℕ View) (tree_state : TreeState) (h : IsTabl
     same_fan = refl;
     invariant = h.invariant;
     prime_numbers = h.prime_numbers;
-    prime = prime_still plan s tree_state tree_state h id kept.0 words h.owners h.log leaves (before 0 (omega (arith, some_number))) refl;
+    prime = prime_still plan s tree_state tree_state h id kept.0 words h.owners h.log leaves (before 0 (omega (arith, some_number))) (λ unowned. refl) refl;
     pages = λ n least below. subst (λ (word : ℕ). PageWordIs plan h.owners words word (tree_state.pages n)) (sym (before n (omega (arith, below))))
-        (page_word_still plan s tree_state tree_state h id kept.0 words h.owners h.log leaves (slice_index s.words n) (tree_state.pages n) (h.pages n least below));
+        (page_word_still plan s tree_state tree_state h id kept.0 words h.owners h.log leaves (slice_index s.words n) (tree_state.pages n) (λ unowned. refl) (h.pages n least below));
     named_by = same_names plan.counts h.owners.named_by s.words words (λ n few. before n (omega (arith, few))) h.named_by;
     no_other_page = h.no_other_page;
     no_other_latch = h.no_other_latch;

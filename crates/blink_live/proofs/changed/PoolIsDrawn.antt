@@ -67,16 +67,16 @@ module _ (plan : Plan) (s : State ℕ View) (tree_state : TreeState) (h : IsTabl
     here = let wide = h.width in get_or-set_same s.words (word_count plan.counts + n) new 0 (omega (arith, wide, common, early))
 
     -- the seat's new view, and the owners: the pool alone has other rows or page numbers
-    module _ (owners : Owners) (w : View) (leaves : LeavesOthers plan s tree_state tree_state h id words owners h.log) (same_latch : owners.latch_number ≡ h.owners.latch_number) (same_named : owners.named_by ≡ h.owners.named_by) (same_role : w.role ≡ v.role) (same_plan : w.plan ≡ v.plan)
+    module _ (owners : Owners) (w : View) (leaves : LeavesOthers plan s tree_state tree_state h id words owners h.log) (same_latch : owners.latch_number ≡ h.owners.latch_number) (same_named : owners.named_by ≡ h.owners.named_by) (same_fixed : owners.fixed ≡ h.owners.fixed) (same_role : w.role ≡ v.role) (same_plan : w.plan ≡ v.plan)
         (accounted : AreAccounts plan owners.place h.log (set s.views id w)) (reuse : IsReuseSafe plan owners.row words (set s.views id w)) (knows : Knows plan owners words tree_state h.log id w) where
       draw_keeps : IsTable plan record { words = words; homes = s.homes; views = set s.views id w }
       draw_keeps = store_keeps plan s tree_state tree_state h id (word_count plan.counts + n) new kept.0 v w at owners h.log h.now leaves record {
         same_fan = refl;
         invariant = h.invariant;
         prime_numbers = h.prime_numbers;
-        prime = prime_still plan s tree_state tree_state h id kept.0 words owners h.log leaves (before 0 (omega (arith, some_number))) refl;
+        prime = prime_still plan s tree_state tree_state h id kept.0 words owners h.log leaves (before 0 (omega (arith, some_number))) (λ unowned. ap (λ (f : ℕ → ℕ). f (named_row s.words 0)) same_fixed) refl;
         pages = λ number least below. subst (λ (word : ℕ). PageWordIs plan owners words word (tree_state.pages number)) (sym (before number (omega (arith, below))))
-            (page_word_still plan s tree_state tree_state h id kept.0 words owners h.log leaves (slice_index s.words number) (tree_state.pages number) (h.pages number least below));
+            (page_word_still plan s tree_state tree_state h id kept.0 words owners h.log leaves (slice_index s.words number) (tree_state.pages number) (λ unowned. ap (λ (f : ℕ → ℕ). f (named_row s.words number)) same_fixed) (h.pages number least below));
         named_by = subst (λ (f : ℕ → ℕ). AreNamedBy plan.counts f words) (sym same_named) (same_names plan.counts h.owners.named_by s.words words (λ k few. before k (omega (arith, few))) h.named_by);
         no_other_page = h.no_other_page;
         no_other_latch = h.no_other_latch;
@@ -103,7 +103,7 @@ module _ (plan : Plan) (s : State ℕ View) (tree_state : TreeState) (h : IsTabl
       machines = λ seat other. refl;
       ways = λ seat m other is. refl;
       rows = λ row least most apart shared. (row_else row (shared common), λ i inside few. stays 1 (omega arith) (omega arith) row least most i inside);
-      fixed = λ row unowned. refl;
+      fixed = λ row unowned. omega arith;
       latched = λ seat n other holds least few published. (holds, before 1 (omega arith) (omega arith) n (omega (arith, few)), stays 1 (omega arith) (omega arith) (named_row s.words n) published.0.0 published.0.1);
       numbers = λ number apart shared. (refl, λ free. free);
       keys = λ owned key apart. (refl, refl, refl);
@@ -154,7 +154,7 @@ module _ (plan : Plan) (s : State ℕ View) (tree_state : TreeState) (h : IsTabl
         (λ (t : (1 ≤ row) × (row < 1)). absurd (omega (arith, t))) hand
 
     rows_drawn : IsTable plan record { words = words 1 (omega arith) (omega arith); homes = s.homes; views = set s.views id (has_rows v (span old new)) }
-    rows_drawn = draw_keeps 1 (omega arith) (omega arith) row_owners (has_rows v (span old new)) rows_leave refl refl refl refl (accounts_stay plan h.owners.place h.log s.views id v (has_rows v (span old new)) at (h.accounted common) refl ((h.accounted common).saw_own id v at))
+    rows_drawn = draw_keeps 1 (omega arith) (omega arith) row_owners (has_rows v (span old new)) rows_leave refl refl refl refl refl (accounts_stay plan h.owners.place h.log s.views id v (has_rows v (span old new)) at (h.accounted common) refl ((h.accounted common).saw_own id v at))
         (reuse_stays plan h.owners.row s.words s.views id v (has_rows v (span old new)) at (h.reuse common) row_owners.row (words 1 (omega arith) (omega arith)) (λ row is. row_else row (λ e. let one : 0 ≡ suc 0 = sym is ∙ e in omega (arith, one)) ∙ is)
         (λ seat row later is apart. row_else row (λ e. let one : suc seat ≡ suc 0 = sym is ∙ e in omega (arith, one, later)) ∙ is)
         (λ n few. before 1 (omega arith) (omega arith) n (omega (arith, few))) refl drawn_rows (same_reads plan h.owners.row s.words s.views id v (has_rows v (span old new)) at (h.reuse common) refl refl refl refl refl)) rows_knows
@@ -176,7 +176,7 @@ module _ (plan : Plan) (s : State ℕ View) (tree_state : TreeState) (h : IsTabl
       machines = λ seat other. refl;
       ways = λ seat m other is. refl;
       rows = λ row least most apart shared. (refl, λ i inside few. stays 2 (omega arith) (omega arith) row least most i inside);
-      fixed = λ row unowned. refl;
+      fixed = λ row unowned. omega arith;
       latched = λ seat n other holds least few published. (holds, before 2 (omega arith) (omega arith) n (omega (arith, few)), stays 2 (omega arith) (omega arith) (named_row s.words n) published.0.0 published.0.1);
       numbers = λ number apart shared. (page_else number (shared common), λ free. free);
       keys = λ owned key apart. (refl, refl, refl);
@@ -254,7 +254,7 @@ module _ (plan : Plan) (s : State ℕ View) (tree_state : TreeState) (h : IsTabl
       }
 
       pages_drawn : IsTable plan record { words = words 2 (omega arith) (omega arith); homes = s.homes; views = set s.views id (has_pages v (span low new) spare) }
-      pages_drawn = draw_keeps 2 (omega arith) (omega arith) page_owners (has_pages v (span low new) spare) pages_leave refl refl refl refl (accounts_stay plan h.owners.place h.log s.views id v (has_pages v (span low new) spare) at (h.accounted common) refl ((h.accounted common).saw_own id v at))
+      pages_drawn = draw_keeps 2 (omega arith) (omega arith) page_owners (has_pages v (span low new) spare) pages_leave refl refl refl refl refl (accounts_stay plan h.owners.place h.log s.views id v (has_pages v (span low new) spare) at (h.accounted common) refl ((h.accounted common).saw_own id v at))
           (reuse_beside plan h.owners.row s.words s.views id v (has_pages v (span low new) spare) at (h.reuse common) page_owners.row (words 2 (omega arith) (omega arith)) (λ row is. is) (λ seat r later is apart. is)
           (λ n few. before 2 (omega arith) (omega arith) n (omega (arith, few))) spare refl (no_call_rows id v (span low new) spare) (same_reads plan h.owners.row s.words s.views id v (has_pages v (span low new) spare) at (h.reuse common) refl refl refl refl refl)) pages_knows
 

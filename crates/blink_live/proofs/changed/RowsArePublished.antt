@@ -130,6 +130,9 @@ module _ (plan : Plan) (s : State ℕ View) (tree_state then : TreeState) (h : I
       not_its_row : (row : ℕ) → h.owners.row row ≡ 0 → row ≢ v.call.rows.next
       not_its_row row unowned same = let one : 0 ≡ suc id = sym unowned ∙ (ap h.owners.row same ∙ (known.for_call.first_own room).1) in omega (arith, one)
 
+      fixed_else : (row : ℕ) → h.owners.row row ≡ 0 → new.fixed row ≡ h.owners.fixed row
+      fixed_else row unowned = put_else h.owners.fixed v.call.rows.next row (length content) (not_its_row row unowned)
+
       -- nobody else holds the latch of the page
       not_anothers : (seat : ℕ) → seat ≢ id → tree_state.holder number ≡ Some seat → 1 ≤ number → ¬ IsPublished plan h.owners (named_row s.words number)
       not_anothers seat other holds least is = ⊎_elim
@@ -145,7 +148,7 @@ module _ (plan : Plan) (s : State ℕ View) (tree_state then : TreeState) (h : I
         machines = step.others;
         ways = λ seat m apart is. ways_stay tree_state then.pages seat m h.invariant step.places is;
         rows = λ row least most apart shared. (put_else h.owners.row v.call.rows.next row 0 (λ same. apart (ap h.owners.row same ∙ (known.for_call.first_own room).1)), λ i inside few. stays row i inside);
-        fixed = λ row unowned. put_else h.owners.fixed v.call.rows.next row (length content) (not_its_row row unowned);
+        fixed = λ row unowned. let same = fixed_else row unowned in omega (arith, same);
         latched = λ seat n other holds least few is. (
           step.same_holder n ∙ holds,
           get_or-set_other s.words number n v.call.rows.next 0 (λ same. not_anothers seat other (ap tree_state.holder (sym same) ∙ holds) (subst (λ (k : ℕ). 1 ≤ k) same least) (subst (λ (k : ℕ). IsPublished plan h.owners (named_row s.words k)) same is)),
@@ -267,7 +270,7 @@ module _ (plan : Plan) (s : State ℕ View) (tree_state then : TreeState) (h : I
       prime_now zero is =
           let word : slice_index words 0 ≡ v.call.rows.next = ap (slice_index words) (sym is) ∙ word_here in
           subst (λ (t : ℕ × List ℕ). Names plan new words t.0 t.1) (λ i. (sym word i, step.prime_here is i)) word_names_it
-      prime_now (suc n) is = prime_still plan s tree_state then h id kept.0 words new log leaves (word_else 0 (λ e. omega (arith, e, is))) (step.other_prime (omega (arith, is)))
+      prime_now (suc n) is = prime_still plan s tree_state then h id kept.0 words new log leaves (word_else 0 (λ e. omega (arith, e, is))) (fixed_else (named_row s.words 0)) (step.other_prime (omega (arith, is)))
 
       same_latch_word : (holder : Option ℕ) → latch_word h.owners holder ≡ latch_word new holder
       same_latch_word None = refl
@@ -281,7 +284,7 @@ module _ (plan : Plan) (s : State ℕ View) (tree_state then : TreeState) (h : I
         prime = prime_now number refl;
         pages = λ n least below. dite (ℕ_discrete n number) (names_row n least) (λ differ.
             subst (λ (t : ℕ × Option PlainPage). PageWordIs plan new words t.0 t.1) (λ i. (sym (word_else n differ) i, sym (step.other_pages n least differ) i))
-            (page_word_still plan s tree_state then h id kept.0 words new log leaves (slice_index s.words n) (tree_state.pages n) (h.pages n least below)));
+            (page_word_still plan s tree_state then h id kept.0 words new log leaves (slice_index s.words n) (tree_state.pages n) (fixed_else (named_row s.words n)) (h.pages n least below)));
         named_by = names_now;
         no_other_page = step.no_other_page;
         no_other_latch = λ n beyond. step.same_holder n ∙ h.no_other_latch n beyond;

@@ -76,7 +76,7 @@ module _ (plan : Plan) (s : State ℕ View) (tree_state : TreeState) (h : IsTabl
     machines = λ seat other. refl;
     ways = λ seat m other is. refl;
     rows = λ r least most apart shared. (refl, λ k below few. other_row_stays plan s.words row r i x some_row least (λ same. apart (ap h.owners.row same ∙ (known.for_call.first_own room).1)) inside k below);
-    fixed = λ row unowned. refl;
+    fixed = λ row unowned. omega arith;
     latched = λ seat n other holds least few published. (
       holds,
       get_or-set_other s.words place n x 0 (λ e. omega (arith, e, few)),
@@ -144,9 +144,9 @@ module _ (plan : Plan) (s : State ℕ View) (tree_state : TreeState) (h : IsTabl
     same_fan = refl;
     invariant = h.invariant;
     prime_numbers = h.prime_numbers;
-    prime = prime_still plan s tree_state tree_state h id kept.0 words h.owners h.log leaves (before_rows 0 (omega (arith, some_number))) refl;
+    prime = prime_still plan s tree_state tree_state h id kept.0 words h.owners h.log leaves (before_rows 0 (omega (arith, some_number))) (λ unowned. refl) refl;
     pages = λ n least below. subst (λ (word : ℕ). PageWordIs plan h.owners words word (tree_state.pages n)) (sym (before_rows n (omega (arith, below))))
-        (page_word_still plan s tree_state tree_state h id kept.0 words h.owners h.log leaves (slice_index s.words n) (tree_state.pages n) (h.pages n least below));
+        (page_word_still plan s tree_state tree_state h id kept.0 words h.owners h.log leaves (slice_index s.words n) (tree_state.pages n) (λ unowned. refl) (h.pages n least below));
     named_by = same_names plan.counts h.owners.named_by s.words words (λ n few. before_rows n (omega (arith, few))) h.named_by;
     no_other_page = h.no_other_page;
     no_other_latch = h.no_other_latch;

@@ -72,7 +72,7 @@ module _ (plan : Plan) (s : State ℕ View) (tree_state : TreeState) (h : IsTabl
     machines = λ seat other. refl;
     ways = λ seat m other is. refl;
     rows = λ r least most apart shared. (refl, fixed_stay r least);
-    fixed = λ r unowned. refl;
+    fixed = λ r unowned. omega arith;
     latched = λ seat n other holds least few is. (
       holds,
       before_rows n (omega (arith, few)),
@@ -126,9 +126,9 @@ module _ (plan : Plan) (s : State ℕ View) (tree_state : TreeState) (h : IsTabl
     same_fan = refl;
     invariant = h.invariant;
     prime_numbers = h.prime_numbers;
-    prime = prime_still plan s tree_state tree_state h id kept.0 words h.owners h.log leaves (before_rows 0 (omega (arith, in_range))) refl;
+    prime = prime_still plan s tree_state tree_state h id kept.0 words h.owners h.log leaves (before_rows 0 (omega (arith, in_range))) (λ unowned. refl) refl;
     pages = λ n least below. subst (λ (word : ℕ). PageWordIs plan h.owners words word (tree_state.pages n)) (sym (before_rows n (omega (arith, below))))
-        (page_word_still plan s tree_state tree_state h id kept.0 words h.owners h.log leaves (slice_index s.words n) (tree_state.pages n) (h.pages n least below));
+        (page_word_still plan s tree_state tree_state h id kept.0 words h.owners h.log leaves (slice_index s.words n) (tree_state.pages n) (λ unowned. refl) (h.pages n least below));
     named_by = same_names plan.counts h.owners.named_by s.words words (λ n few. before_rows n (omega (arith, few))) h.named_by;
     no_other_page = h.no_other_page;
     no_other_latch = h.no_other_latch;

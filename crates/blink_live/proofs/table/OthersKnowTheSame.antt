@@ -43,7 +43,8 @@ pub record LeavesOthers (plan : Plan) (s : State ℕ View) (tree_state then : Tr
   pub machines : (seat : ℕ) → seat ≢ id → then.machines seat ≡ tree_state.machines seat
   pub ways : (seat : ℕ) (m : PlainMachine) → seat ≢ id → tree_state.machines seat ≡ Some m → descent_bound then.pages m ≡ descent_bound tree_state.pages m
   pub rows : (row : ℕ) → 1 ≤ row → row ≤ plan.counts.rows → h.owners.row row ≢ suc id → (IsCommon plan → h.owners.row row ≢ suc 0) → (new.row row ≡ h.owners.row row) × FixedStay plan h.owners s.words words row
-  pub fixed : (row : ℕ) → h.owners.row row ≡ 0 → new.fixed row ≡ h.owners.fixed row
+  -- no fewer words are fixed
+  pub fixed : (row : ℕ) → h.owners.row row ≡ 0 → h.owners.fixed row ≤ new.fixed row
   -- a page whose latch another seat holds stays latched, its word names the same row, and all words of this row stay
   pub latched : (seat number : ℕ) → seat ≢ id → tree_state.holder number ≡ Some seat → 1 ≤ number → number < plan.counts.numbers → IsPublished plan h.owners (named_row s.words number)
       → (then.holder number ≡ Some seat) × (slice_index words number ≡ slice_index s.words number) × RowStays plan s.words words (named_row s.words number)
@@ -66,25 +67,26 @@ module _ (plan : Plan) (s : State ℕ View) (tree_state then : TreeState) (h : I
       let t = leaves.rows row is.0.0 is.0.1 (λ e. let zero_is : 0 ≡ suc id = sym is.1 ∙ e in absurd (omega (arith, zero_is))) (λ common e. let zero_is : 0 ≡ suc 0 = sym is.1 ∙ e in absurd (omega (arith, zero_is))) in
       ((is.0, t.0 ∙ is.1), t.1)
 
-  pub word_names_still : (word : ℕ) (content : List ℕ) → Names plan h.owners s.words word content → Names plan new words word content
-  word_names_still word content is =
-      let t = still_published (row_in word) is.published in record { published = t.0; begins = λ i inside few. t.1 i inside (λ unowned. let all = is.fixed in omega (arith, all, few)) ∙ is.begins i inside few; fixed = leaves.fixed (row_in word) is.published.1 ∙ is.fixed }
+  -- a word that names a row names it still, if the same words are fixed
+  pub word_names_still : (word : ℕ) (content : List ℕ) → (h.owners.row (row_in word) ≡ 0 → new.fixed (row_in word) ≡ h.owners.fixed (row_in word)) → Names plan h.owners s.words word content → Names plan new words word content
+  word_names_still word content same is =
+      let t = still_published (row_in word) is.published in record { published = t.0; begins = λ i inside few. t.1 i inside (λ unowned. let all = is.fixed in omega (arith, all, few)) ∙ is.begins i inside few; fixed = same is.published.1 ∙ is.fixed }
 
-  pub page_word_still : (word : ℕ) (page : Option PlainPage) → PageWordIs plan h.owners s.words word page → PageWordIs plan new words word page
-  page_word_still word None is = is
-  page_word_still word (Some page) is =
+  pub page_word_still : (word : ℕ) (page : Option PlainPage) → (h.owners.row (row_in word) ≡ 0 → new.fixed (row_in word) ≡ h.owners.fixed (row_in word)) → PageWordIs plan h.owners s.words word page → PageWordIs plan new words word page
+  page_word_still word None same is = is
+  page_word_still word (Some page) same is =
       let t = still_published (row_in word) is.published in record {
         base = is.base;
         behind = is.behind;
         published = t.0;
         begins = λ i inside few. t.1 i inside (λ unowned. let all = is.fixed in omega (arith, all, few)) ∙ is.begins i inside few;
-        fixed = leaves.fixed (row_in word) is.published.1 ∙ is.fixed;
+        fixed = same is.published.1 ∙ is.fixed;
         version = is.version;
       }
 
   pub reads_still : (reads : Option (ℕ × List ℕ)) (behind : List ℕ) → ReadsRow plan h.owners s.words reads behind → ReadsRow plan new words reads behind
   reads_still None behind is = tt
-  reads_still (Some (row, content)) behind is = let t = still_published row is.0 in (t.0, (λ i inside few. t.1 i inside (λ unowned. let all = is.2 in omega (arith, all, few)) ∙ is.1 i inside few), (let same = leaves.fixed row is.0.1 in let all = is.2 in omega (arith, same, all)))
+  reads_still (Some (row, content)) behind is = let t = still_published row is.0 in (t.0, (λ i inside few. t.1 i inside (λ unowned. let all = is.2 in omega (arith, all, few)) ∙ is.1 i inside few), (let more = leaves.fixed row is.0.1 in let all = is.2 in omega (arith, more, all)))
 
   pub seat_reads_still : (v : View) → Reads plan h.owners s.words tree_state v → Reads plan new words then v
   seat_reads_still v is = (

@@ -19,6 +19,7 @@ use Rattle.blink_live.specs.Accounts.{AreAccounts}
 use Rattle.blink_live.specs.Reuse.{IsReuseSafe}
 use Rattle.blink_live.specs.Rule.{AreNamedBy, Owners, Names, PageWordIs, latch_word, HasForCall, Knows, IsTableAt, IsTable}
 use Rattle.blink_live.specs.Views.{IsCommon}
+use Rattle.blink_live.specs.Words.{named_row}
 use Rattle.blink_page.specs.{IsPageNumber}
 use Rattle.blink_live.proofs.table.OthersKnowTheSame.{RowStays, row_begins_still, LeavesOthers, word_names_still, other_knows}
 use Rattle.blink_live.proofs.table.SeatsThatStay.{at_inside, views_stay, counted_stays}
@@ -56,10 +57,10 @@ pub record IsStored (plan : Plan) (s : State ℕ View) (tree_state then : TreeSt
 
 -- a prime block that no step of the seat changes
 pub prime_still : (plan : Plan) (s : State ℕ View) (tree_state then : TreeState) (h : IsTableAt plan s tree_state) (id : ℕ) → 1 ≤ id → (words : List ℕ) (new : Owners) (log : List Change) → LeavesOthers plan s tree_state then h id words new log
-    → slice_index words 0 ≡ slice_index s.words 0 → then.prime ≡ tree_state.prime → Names plan new words (slice_index words 0) (prime_words then.prime)
-prime_still plan s tree_state then h id some_pass words new log leaves same_word same_prime =
+    → slice_index words 0 ≡ slice_index s.words 0 → (h.owners.row (named_row s.words 0) ≡ 0 → new.fixed (named_row s.words 0) ≡ h.owners.fixed (named_row s.words 0)) → then.prime ≡ tree_state.prime → Names plan new words (slice_index words 0) (prime_words then.prime)
+prime_still plan s tree_state then h id some_pass words new log leaves same_word same_fixed same_prime =
     subst (λ (t : ℕ × List ℕ). Names plan new words t.0 (prime_words t.1)) (λ i. (sym same_word i, sym same_prime i))
-    (word_names_still plan s tree_state then h id some_pass words new log leaves (slice_index s.words 0) (prime_words tree_state.prime) h.prime)
+    (word_names_still plan s tree_state then h id some_pass words new log leaves (slice_index s.words 0) (prime_words tree_state.prime) same_fixed h.prime)
 
 module _ (plan : Plan) (s : State ℕ View) (tree_state then : TreeState) (h : IsTableAt plan s tree_state) (id place x : ℕ) (some_pass : 1 ≤ id) (v w : View) (at : get_elem? s.views id ≡ some v) (new : Owners) (log : List Change) (now : List Entry) where
   pub store_keeps : LeavesOthers plan s tree_state then h id (set s.words place x) new log → IsStored plan s tree_state then h (set s.words place x) new log now → w.role ≡ v.role → w.plan ≡ v.plan → (IsCommon plan → AreAccounts plan new.place log (set s.views id w))
