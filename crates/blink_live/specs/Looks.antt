@@ -4,7 +4,7 @@ use Rattle.blink_batch.specs.{pointer_of}
 use Rattle.blink_page.specs.{PlainPage, IsKeyOf, value_at}
 use Rattle.blink_rest.specs.{IsMember, Pages}
 use Rattle.blink_rest.specs.Chain.{Cell}
-use Rattle.blink_rows.specs.{row_in}
+use Rattle.blink_rows.specs.{records_in, row_in}
 use Rattle.blink_machine.specs.{Levels}
 use Rattle.blink_machine.specs.Tree.{IsTree}
 use Rattle.blink_live.specs.declared.view.Change.{Change}
@@ -25,12 +25,17 @@ pub record IsLeafInChain (fan : ℕ) (prime : List ℕ) (pages : Pages) (number 
 abbrev pub TellsAll : (ℕ → Option ℕ) → PlainPage → Type 0
 TellsAll kept leaf = (key : ℕ) → IsKeyOf leaf key → value_at key leaf.entries ≡ kept key
 
+-- a page word that was loaded, and what it is since then: while it names the same row, it counts no fewer records
+abbrev pub IsSince : ℕ → ℕ → Type 0
+IsSince before now = row_in now ≡ row_in before → (records_in before).count ≤ (records_in now).count
+
 -- the page word of a leaf was this, which names a published row. Once a tree state is marked, the leaf tells what its changes leave,
 -- as long as its page word is still the same
 pub record IsNoted (plan : Plan) (whose : ℕ → ℕ) (words : List ℕ) (fan : ℕ) (prime : List ℕ) (pages : Pages) (marked : Option (List Change)) (number word : ℕ) : Type 0 where
   pub in_range : (1 ≤ number) × (number < plan.counts.numbers)
   pub row_in_range : IsRowNumber plan.counts (row_in word)
   pub unowned : whose (row_in word) ≡ 0
+  pub since : IsSince word (slice_index words number)
   pub in_chain : IsLeafInChain fan prime pages number
   pub tells : (changes : List Change) → marked ≡ Some changes → slice_index words number ≡ word → (leaf : PlainPage) → pages number ≡ Some leaf → TellsAll (after (pointer_of plan.opening) changes) leaf
 

@@ -22,6 +22,7 @@ use Rattle.blink_live.specs.declared.view.Plan.{Plan}
 use Rattle.blink_live.specs.declared.view.Role.TheVariants.{Keeper, Pass}
 use Rattle.blink_live.specs.declared.view.View.{View}
 use Rattle.blink_live.specs.Changes.{put}
+use Rattle.blink_live.specs.Looks.{IsSince}
 use Rattle.blink_live.specs.Rule.{Owners, PageWordIs, latch_word, IsInRole, IsBoundedWay, Knows, IsTableAt, IsTable}
 use Rattle.blink_live.specs.AtomicSteps.{GoesOn, CanGoOn, tries_latch, lets_go}
 use Rattle.blink_live.specs.Views.{SeatState, going_on, latch_number_by}
@@ -84,7 +85,7 @@ module _ (plan : Plan) (s : State ℕ View) (tree_state : TreeState) (h : IsTabl
     latch_numbers = λ seat. refl;
     longer = λ seen is. is;
     in_chain = λ n is. is;
-    named = λ n row least few unowned is. (sym (get_or-set_other s.words (plan.counts.numbers + number) n x 0 (λ e. omega (arith, e, few))) ∙ is, refl);
+    named = λ n row least few unowned since. (subst (IsSince row) (sym (get_or-set_other s.words (plan.counts.numbers + number) n x 0 (λ e. omega (arith, e, few)))) since, λ is. (sym (get_or-set_other s.words (plan.counts.numbers + number) n x 0 (λ e. omega (arith, e, few))) ∙ is, refl));
   }
 
   -- the seat knows what it knew, but for its operation

@@ -11,6 +11,7 @@ use Rattle.blink_live.specs.declared.view.Role.TheVariants.{Keeper, Pass}
 use Rattle.blink_live.specs.declared.view.View.{View}
 use Rattle.blink_live.specs.Accounts.{HaveAuthors}
 use Rattle.blink_live.specs.AtomicSteps.{marks_place}
+use Rattle.blink_live.specs.Looks.{IsSince}
 use Rattle.blink_live.specs.Rule.{HasPlace, PageWordIs, IsInRole, Knows, IsTableAt, IsTable}
 use Rattle.blink_live.specs.Views.{IsCommon, SeatState, is_busy}
 use Rattle.blink_live.specs.Words.{named_row, place_word, row_start, word_count}
@@ -70,7 +71,7 @@ module _ (plan : Plan) (s : State ℕ View) (tree_state : TreeState) (h : IsTabl
     latch_numbers = λ seat. refl;
     longer = λ seen is. is;
     in_chain = λ n is. is;
-    named = λ n row least few unowned is. (sym (before n (omega (arith, few))) ∙ is, refl);
+    named = λ n row least few unowned since. (subst (IsSince row) (sym (before n (omega (arith, few)))) since, λ is. (sym (before n (omega (arith, few))) ∙ is, refl));
   }
 
   knows : Knows plan h.owners words tree_state h.log id w

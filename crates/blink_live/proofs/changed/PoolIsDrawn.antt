@@ -15,6 +15,7 @@ use Rattle.blink_live.specs.declared.view.Plan.{Plan}
 use Rattle.blink_live.specs.declared.view.Role.TheVariants.{Keeper, Pass}
 use Rattle.blink_live.specs.declared.view.View.{View}
 use Rattle.blink_live.specs.AtomicSteps.{Draws, draws_pages, draws_rows}
+use Rattle.blink_live.specs.Looks.{IsSince}
 use Rattle.blink_live.specs.Reuse.{IsAtHand, IsReuseSafe}
 use Rattle.blink_live.specs.Accounts.{AreAccounts}
 use Rattle.blink_live.specs.Rule.{AreNamedBy, latch_word, HasNumbers, HasRows, HasSpare, Owners, PageWordIs, IsInRole, Knows, IsTableAt, IsTable}
@@ -121,7 +122,7 @@ module _ (plan : Plan) (s : State ℕ View) (tree_state : TreeState) (h : IsTabl
       latch_numbers = λ seat. refl;
       longer = λ seen is. is;
       in_chain = λ n is. is;
-      named = λ n row least few unowned is. (sym (before 1 (omega arith) (omega arith) n (omega (arith, few))) ∙ is, refl);
+      named = λ n row least few unowned since. (subst (IsSince row) (sym (before 1 (omega arith) (omega arith) n (omega (arith, few)))) since, λ is. (sym (before 1 (omega arith) (omega arith) n (omega (arith, few))) ∙ is, refl));
     }
 
     rows_knows : Knows plan row_owners (words 1 (omega arith) (omega arith)) tree_state h.log id (has_rows v (span old new))
@@ -199,7 +200,7 @@ module _ (plan : Plan) (s : State ℕ View) (tree_state : TreeState) (h : IsTabl
       latch_numbers = λ seat. refl;
       longer = λ seen is. is;
       in_chain = λ n is. is;
-      named = λ n row least few unowned is. (sym (before 2 (omega arith) (omega arith) n (omega (arith, few))) ∙ is, refl);
+      named = λ n row least few unowned since. (subst (IsSince row) (sym (before 2 (omega arith) (omega arith) n (omega (arith, few)))) since, λ is. (sym (before 2 (omega arith) (omega arith) n (omega (arith, few))) ∙ is, refl));
     }
 
     no_call_rows : (seat : ℕ) (u : View) (pages spare : Span) (row : ℕ) → IsAtHand (has_pages u pages spare) row → IsAtHand u row ⊎ (h.owners.row row ≢ suc seat)

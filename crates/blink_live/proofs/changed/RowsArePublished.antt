@@ -28,7 +28,7 @@ use Rattle.blink_live.specs.declared.view.View.{View}
 use Rattle.blink_live.specs.Changes.{put, after, states_of}
 use Rattle.blink_live.specs.Accounts.{AreAccounts}
 use Rattle.blink_live.specs.Reuse.{IsReuseSafe}
-use Rattle.blink_live.specs.Looks.{IsLeafInChain}
+use Rattle.blink_live.specs.Looks.{IsLeafInChain, IsSince}
 use Rattle.blink_live.specs.Rule.{AreNamedBy, Owners, IsPublished, PageWordIs, latch_word, HasRows, HasNumbers, HasSpare, IsShare, IsInRole, IsBoundedWay, Knows, IsTableAt, IsTable, Names, NamesPage}
 use Rattle.blink_live.specs.Views.{IsCommon, IsOwned, span, publishes}
 use Rattle.blink_live.specs.Words.{place_word, word_count, BeginWith, RowBegins, named_row}
@@ -169,14 +169,16 @@ module _ (plan : Plan) (s : State ℕ View) (tree_state then : TreeState) (h : I
         latch_numbers = λ seat. refl;
         longer = λ seen is. (is.0 ++ made, sym (append_assoc seen is.0 made) ∙ ap (λ (l : List Change). l ++ made) is.1);
         in_chain = step.in_chain;
-        named = λ n word least few unowned is. dite (ℕ_discrete n number)
+        named = λ n word least few unowned since. dite (ℕ_discrete n number)
             (λ same.
             let wide = h.width in
             let here : slice_index words number ≡ v.call.rows.next = get_or-set_same s.words number v.call.rows.next 0 (omega (arith, wide, in_range)) in
-            let its : row_in word ≡ v.call.rows.next = ap row_in (sym is ∙ (ap (slice_index words) same ∙ here)) ∙ row_names_itself plan v.call.rows.next h.bounded row_inside in
-            let one : 0 ≡ suc id = sym unowned ∙ (ap h.owners.row its ∙ (known.for_call.first_own room).1) in
-            absurd (omega (arith, one)))
-            (λ differ. (sym (get_or-set_other s.words number n v.call.rows.next 0 differ) ∙ is, step.other_pages n least differ));
+            let its : row_in (slice_index words n) ≡ v.call.rows.next = ap row_in (ap (slice_index words) same ∙ here) ∙ row_names_itself plan v.call.rows.next h.bounded row_inside in
+            let other : row_in word ≢ v.call.rows.next = not_its_row (row_in word) unowned in
+            (λ names. absurd (other (sym names ∙ its)), λ is. absurd (other (ap row_in (sym is) ∙ its))))
+            (λ differ.
+            let still : slice_index words n ≡ slice_index s.words n = get_or-set_other s.words number n v.call.rows.next 0 differ in
+            (subst (IsSince word) (sym still) since, λ is. (sym still ∙ is, step.other_pages n least differ)));
       }
 
       row_number : 1 ≤ v.call.rows.next

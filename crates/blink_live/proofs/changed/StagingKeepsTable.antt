@@ -13,6 +13,7 @@ use Rattle.blink_live.specs.declared.view.Role.TheVariants.{Pass, Keeper}
 use Rattle.blink_live.specs.declared.view.View.{View}
 use Rattle.blink_machine.proofs.Offered.{step_law}
 use Rattle.blink_live.specs.AtomicSteps.{knows_more, stores_word}
+use Rattle.blink_live.specs.Looks.{IsSince}
 use Rattle.blink_live.specs.Rule.{PageWordIs, IsInRole, Knows, IsTableAt, IsTable}
 use Rattle.blink_live.specs.Views.{SeatState, knows_word, stage_word}
 use Rattle.blink_live.specs.Words.{named_row, row_start, RowBegins, place_word, word_count}
@@ -93,7 +94,7 @@ module _ (plan : Plan) (s : State ℕ View) (tree_state : TreeState) (h : IsTabl
     latch_numbers = λ seat. refl;
     longer = λ seen is. is;
     in_chain = λ n is. is;
-    named = λ n r least few unowned is. (sym (get_or-set_other s.words place n x 0 (λ e. omega (arith, e, few))) ∙ is, refl);
+    named = λ n r least few unowned since. (subst (IsSince r) (sym (get_or-set_other s.words place n x 0 (λ e. omega (arith, e, few)))) since, λ is. (sym (get_or-set_other s.words place n x 0 (λ e. omega (arith, e, few))) ∙ is, refl));
   }
 
   inside_words : place < length s.words

@@ -11,6 +11,7 @@ use Rattle.blink_machine.specs.TreeState.{TreeState}
 use Rattle.blink_live.specs.declared.view.Plan.{Plan}
 use Rattle.blink_live.specs.declared.view.Role.TheVariants.{Pass, Keeper}
 use Rattle.blink_live.specs.declared.view.View.{View}
+use Rattle.blink_live.specs.Looks.{IsSince}
 use Rattle.blink_live.specs.Rule.{IsPublished, PageWordIs, IsInRole, Knows, IsTableAt, IsTable}
 use Rattle.blink_live.specs.Words.{named_row, row_start, RowBegins, place_word, word_count}
 use Rattle.blink_live.proofs.changed.StagingKeepsTable.{at_the_end, before_the_end, other_row_stays}
@@ -92,7 +93,7 @@ module _ (plan : Plan) (s : State ℕ View) (tree_state : TreeState) (h : IsTabl
     latch_numbers = λ seat. refl;
     longer = λ seen is. is;
     in_chain = λ n is. is;
-    named = λ n r least few unowned is. (sym (before_rows n (omega (arith, few))) ∙ is, refl);
+    named = λ n r least few unowned since. (subst (IsSince r) (sym (before_rows n (omega (arith, few)))) since, λ is. (sym (before_rows n (omega (arith, few))) ∙ is, refl));
   }
 
   knows : Knows plan h.owners words tree_state h.log id v

@@ -72,6 +72,7 @@ module _ (plan : Plan) (s : State ℕ View) (tree_state : TreeState) (h : IsTabl
     in_range = was.in_range;
     row_in_range = was.row_in_range;
     unowned = was.unowned;
+    since = was.since;
     in_chain = was.in_chain;
     tells = λ changes is. absurd (let e : None ≡ Some changes = is in cc);
   }
@@ -95,6 +96,7 @@ module _ (plan : Plan) (s : State ℕ View) (tree_state : TreeState) (h : IsTabl
         in_range = range;
         row_in_range = is.published.0;
         unowned = is.published.1;
+        since = λ names. omega arith;
         in_chain = it.0;
         tells = λ changes is. absurd (let e : None ≡ Some changes = is in cc);
       }

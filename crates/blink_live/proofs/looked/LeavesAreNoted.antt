@@ -102,6 +102,7 @@ module _ (plan : Plan) (s : State ℕ View) (tree_state : TreeState) (h : IsTabl
           in_range = (some_number, in_range);
           row_in_range = is_page.published.0;
           unowned = is_page.published.1;
+          since = λ names. omega arith;
           in_chain = comes_to_leaf tree_state id number m h.invariant under going;
           tells = λ changes is. absurd (let e : None ≡ Some changes = is in cc);
         }
@@ -111,6 +112,7 @@ module _ (plan : Plan) (s : State ℕ View) (tree_state : TreeState) (h : IsTabl
       in_range = was.in_range;
       row_in_range = was.row_in_range;
       unowned = was.unowned;
+      since = was.since;
       in_chain = was.in_chain;
       tells = λ changes is. absurd (let e : None ≡ Some changes = is in cc);
     }
@@ -140,6 +142,7 @@ module _ (plan : Plan) (s : State ℕ View) (tree_state : TreeState) (h : IsTabl
     in_range = was.in_range;
     row_in_range = was.row_in_range;
     unowned = was.unowned;
+    since = was.since;
     in_chain = was.in_chain;
     tells = λ changes is named leaf there. subst (λ (l : List Change). TellsAll (after (pointer_of plan.opening) l) leaf) (let e : h.log ≡ changes = cc in e)
         (leaf_tells_all tree_state.fan tree_state.prime tree_state.pages n leaf h.now (after (pointer_of plan.opening) h.log) was.in_chain there h.is_map.kept h.kept);

@@ -104,7 +104,7 @@ module _ (plan : Plan) (s : State ℕ View) (tree_state : TreeState) (h : IsTabl
 
   looks_then : (u : View) → HasLooked plan h.owners.row s.words tree_state.fan tree_state.prime tree_state.pages u.look → HasLooked plan whose s.words tree_state.fan tree_state.prime tree_state.pages u.look
   looks_then u = looks_stay plan h.owners.row whose s.words s.words tree_state.fan tree_state.fan tree_state.prime tree_state.prime tree_state.pages tree_state.pages u.look
-      (λ number word has row_in_range unowned. published_still (row_in word) unowned) (λ number in_chain. in_chain) (λ number word least few unowned is. (is, refl))
+      (λ number word has row_in_range unowned. published_still (row_in word) unowned) (λ number in_chain. in_chain) (λ number word least few unowned since. (since, λ is. (is, refl)))
 
   reads_all : (u : View) → Reads plan h.owners s.words tree_state u → Reads plan new s.words tree_state u
   reads_all u is = (reads_then u.reads u.behind is.0, looks_then u is.1)

@@ -130,7 +130,7 @@ module _ (plan : Plan) (s : State ℕ View) (tree_state : TreeState) (h : IsTabl
   looks_then : (seat : ℕ) (u : View) → get_elem? s.views seat ≡ some u → HasLooked plan h.owners.row s.words tree_state.fan tree_state.prime tree_state.pages u.look → HasLooked plan whose s.words tree_state.fan tree_state.prime tree_state.pages u.look
   looks_then seat u there = looks_stay plan h.owners.row whose s.words s.words tree_state.fan tree_state.fan tree_state.prime tree_state.prime tree_state.pages tree_state.pages u.look
       (λ number word has in_range unowned. else_same (row_in word) (λ e. (safe.agree id seat v u at there (row_in word) [] (inr (number, word, has, refl))).not_free (subst (Contains v.stock.free) (sym e) row_is_free)) ∙ unowned) (λ number in_chain. in_chain)
-      (λ number word least few unowned is. (is, refl))
+      (λ number word least few unowned since. (since, λ is. (is, refl)))
 
   reads_all : (seat : ℕ) (u : View) → get_elem? s.views seat ≡ some u → Reads plan h.owners s.words tree_state u → Reads plan new s.words tree_state u
   reads_all seat u there is = (reads_then seat u there u.reads u.behind refl is.0, looks_then seat u there is.1)

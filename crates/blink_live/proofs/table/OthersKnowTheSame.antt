@@ -21,7 +21,7 @@ use Rattle.blink_live.specs.declared.view.Role.TheVariants.{Keeper, Pass, Spent}
 use Rattle.blink_live.specs.declared.view.Share.{Share}
 use Rattle.blink_live.specs.declared.view.View.{View}
 use Rattle.blink_live.specs.Changes.{after, states_of}
-use Rattle.blink_live.specs.Looks.{IsLeafInChain}
+use Rattle.blink_live.specs.Looks.{IsLeafInChain, IsSince}
 use Rattle.blink_live.specs.Rule.{HasNothing, HasPool, Owners, IsPublished, PageWordIs, Reads, ReadsRow, HasRows, HasNumbers, HasForCall, HasSpare, IsShare, IsInRole, Knows, IsTableAt, Names}
 use Rattle.blink_live.specs.Views.{IsCommon, IsOwned, span}
 use Rattle.blink_live.specs.Words.{named_row, place_word, row_start, RowBegins}
@@ -58,7 +58,8 @@ pub record LeavesOthers (plan : Plan) (s : State ℕ View) (tree_state then : Tr
   pub latch_numbers : (seat : ℕ) → new.latch_number seat ≡ h.owners.latch_number seat
   pub longer : (seen : List Change) → IsPrefix seen h.log → IsPrefix seen log
   pub in_chain : (number : ℕ) → IsLeafInChain tree_state.fan tree_state.prime tree_state.pages number → IsLeafInChain then.fan then.prime then.pages number
-  pub named : (number word : ℕ) → 1 ≤ number → number < plan.counts.numbers → h.owners.row (row_in word) ≡ 0 → slice_index words number ≡ word → (slice_index s.words number ≡ word) × (then.pages number ≡ tree_state.pages number)
+  pub named : (number word : ℕ) → 1 ≤ number → number < plan.counts.numbers → h.owners.row (row_in word) ≡ 0 → IsSince word (slice_index s.words number)
+      → IsSince word (slice_index words number) × (slice_index words number ≡ word → (slice_index s.words number ≡ word) × (then.pages number ≡ tree_state.pages number))
 
 module _ (plan : Plan) (s : State ℕ View) (tree_state then : TreeState) (h : IsTableAt plan s tree_state) (id : ℕ) (some_pass : 1 ≤ id) (words : List ℕ) (new : Owners) (log : List Change)
     (leaves : LeavesOthers plan s tree_state then h id words new log) where

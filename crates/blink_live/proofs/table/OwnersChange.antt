@@ -49,7 +49,7 @@ module _ (plan : Plan) (old new : Owners) (words : List ℕ) (log : List Change)
   seat_reads_still tree_state v is = (
     reads_still v.reads v.behind is.0,
     looks_stay plan old.row new.row words words tree_state.fan tree_state.fan tree_state.prime tree_state.prime tree_state.pages tree_state.pages v.look (λ number word has in_range. published.rows (row_in word)) (λ number in_chain. in_chain)
-        (λ number word least few unowned is. (is, refl)) is.1,
+        (λ number word least few unowned since. (since, λ is. (is, refl))) is.1,
   )
 
   -- a share whose keys have another owner
