@@ -24,3 +24,4 @@ pub mod RoomComesBack
 pub mod PoolIsDrawn
 pub mod OperationsRest
 pub mod WordsAreAdded
+pub mod RecordsAreCounted
