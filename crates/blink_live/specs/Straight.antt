@@ -6,7 +6,10 @@ use Rattle.blink_batch.specs.declared.Answer.{Answer}
 use Rattle.blink_batch.specs.declared.Op.{Op}
 use Rattle.blink_page.specs.{IsLawfulPage, PlainPage, place_of, value_at, with_entries}
 use Rattle.blink_page.specs.declared.limits.TheConstants.{MAX_FAN}
-use Rattle.blink_rows.specs.{page_words, row_in}
+use Rattle.blink_rows.specs.{Fits, page_after, page_words, row_in}
+use Rattle.blink_rows.specs.declared.log.Kind.{Kind}
+use Rattle.blink_rows.specs.declared.log.Kind.TheVariants.{Replaced, Added, Removed}
+use Rattle.blink_rows.specs.declared.log.Record.{Record}
 use Rattle.blink_machine.specs.declared.machine.Job.TheVariants.{Leaf}
 use Rattle.blink_machine.specs.declared.machine.Next.TheVariants.{Finish, MoveRight}
 use Rattle.blink_machine.specs.declared.machine.State.{State}
@@ -63,8 +66,24 @@ abbrev pub as_list : Option (ℕ × ℕ) → List (ℕ × ℕ)
 as_list None = []
 as_list (Some entry) = entry ∷ []
 
-abbrev pub splice_of : ℕ → Option (ℕ × ℕ) → Splice
-splice_of gone entry = record { gone = gone; entry = entry }
+-- how a change of this kind changes the entries at the key's place: the entries that go, and the one that comes
+abbrev pub splice_by : Kind → ℕ × ℕ → Splice
+splice_by Replaced entry = record { gone = 1; entry = Some entry }
+splice_by Added entry = record { gone = 0; entry = Some entry }
+splice_by Removed entry = record { gone = 1; entry = None }
+
+abbrev pub splice_of : Record → Splice
+splice_of r = splice_by r.kind (r.key, r.pointer)
+
+-- the key's removal, its exchange, and its addition
+abbrev pub removal_of : ℕ → Record
+removal_of key = record { kind = Removed; key = key; pointer = 0 }
+
+abbrev pub exchange_of : ℕ → ℕ → Record
+exchange_of key pointer = record { kind = Replaced; key = key; pointer = pointer }
+
+abbrev pub addition_of : ℕ → ℕ → Record
+addition_of key pointer = record { kind = Added; key = key; pointer = pointer }
 
 -- the next page has the splice's entry at this place, in place of those that go; it is else the page
 pub record IsSplice (place : ℕ) (splice : Splice) (page next : PlainPage) : Type 0 where
@@ -79,7 +98,7 @@ abbrev pub Makes : PlainMachine → ℕ → Spot → PlainPage → Edit → Plai
 Makes m number spot page (Right next) after = after ≡ record m { state = Leave number (MoveRight next) }
 Makes m number spot page (Answers kept) after = after ≡ record m { state = Leave number Finish; answer = Some (answer_at m.op kept) }
 Makes m number spot page (Whole row) after = (row ≡ spot.row) × (after ≡ record m { state = SplitNew number page })
-Makes m number spot page (Write at splice) after = (at ≡ spot) × ((next : PlainPage) × IsSplice spot.place splice page next × (after ≡ record m { state = Change number next spot.kept }))
+Makes m number spot page (Write at r) after = (at ≡ spot) × Fits MAX_FAN page r × IsSplice spot.place (splice_of r) page (page_after page r) × (after ≡ record m { state = Change number (page_after page r) spot.kept })
 
 -- so an operation of this fan may edit its leaf, where the key's place is this
 abbrev pub IsEditOf : Op → ℕ → Spot → Edit → Type 0
@@ -96,6 +115,12 @@ pub record IsToWrite (live : Live) (op : Op) (descent : Descent) (first seat : S
   pub splices : IsSplice spot.place splice page next
   pub under_way : IsUnderWay live op first seat (at_leaf live.fan op descent (Change descent.leaf next spot.kept) None) room
 
+-- as this record says
+pub record IsToChange (live : Live) (op : Op) (descent : Descent) (first seat : Seat ℕ View) (room : Room) (spot : Spot) (r : Record) : Type 0 where
+  pub writes : IsToWrite live op descent first seat room spot (splice_of r)
+  pub fits : Fits MAX_FAN writes.page r
+  pub is_after : writes.next ≡ page_after writes.page r
+
 -- the operation is `after` now, by what it has read under the latch: a leaf that is full, or has records
 pub record NeedsWhole (live : Live) (op : Op) (descent : Descent) (first seat : Seat ℕ View) (room : Room) (word : ℕ) : Type 0 where
   pub page : PlainPage
@@ -111,7 +136,7 @@ abbrev pub HasMet : Live → Op → Descent → Seat ℕ View → Seat ℕ View 
 HasMet live op descent first seat room (Right next) = IsUnderWay live op first seat (at_leaf live.fan op descent (Leave descent.leaf (MoveRight next)) None) room
 HasMet live op descent first seat room (Answers kept) = IsUnderWay live op first seat (leaving live.fan op descent kept) room
 HasMet live op descent first seat room (Whole word) = NeedsWhole live op descent first seat room word
-HasMet live op descent first seat room (Write spot splice) = IsToWrite live op descent first seat room spot splice
+HasMet live op descent first seat room (Write spot r) = IsToChange live op descent first seat room spot r
 
 -- a try to change the leaf has ended so
 abbrev pub HasTurned : Live → Op → Descent → Seat ℕ View → Seat ℕ View → Room → Turned → Type 0

@@ -6,6 +6,7 @@ use arrayvec::ArrayVec;
 use blink_batch::Answer;
 use blink_machine::Resting;
 use blink_page::LEVELS;
+use blink_rows::Record;
 
 /// Where a descent of an operation that changes the tree has ended: the leaf, and the pages that it read last on the levels
 /// above, the top level first.
@@ -46,8 +47,8 @@ pub(crate) enum Edit {
     Answers(Option<u64>),
     /// The leaf, whose page word this is, is full or has records: the operation has to see all of it.
     Whole(u64),
-    /// The entries change.
-    Write(Spot, Splice),
+    /// One key of the leaf changes, as the record says.
+    Write(Spot, Record),
 }
 
 /// Where a try to change a leaf has ended.

@@ -21,7 +21,7 @@ ghost use Rattle.blink_live.specs.declared.view.View.{View};
 ghost use Rattle.blink_live.specs.Pendings.{IsWaiting};
 ghost use Rattle.blink_live.specs.Seats.{HasRead, HasSameNumber, IsAtLeaf, IsPassSeat, IsSameSeat, ReadsPage};
 ghost use Rattle.blink_live.specs.Shelves.{IsShelved};
-ghost use Rattle.blink_live.specs.Straight.{HasCome, HasMet, HasTurned, IsEditOf, IsSpot, IsToWrite, NeedsWhole, holding, leaving, page_at, splice_of, wanting};
+ghost use Rattle.blink_live.specs.Straight.{HasCome, HasMet, HasTurned, IsEditOf, IsSpot, IsToWrite, NeedsWhole, exchange_of, holding, leaving, page_at, removal_of, splice_of, wanting};
 ghost use Rattle.blink_live.specs.Updating.{HasRowsFor, IsUnderWay, room_in};
 ghost use Rattle.blink_live.specs.Views.{CanBegin, MayChange, for_call, known_of};
 ghost use Rattle.blink_live.specs.Words.{AreNumbersIn, AreRowsIn, IsRowNumber, row_start, word_count};
@@ -37,7 +37,7 @@ use blink_batch::{Answer, Op};
 use blink_machine::Machine;
 use blink_page::Way;
 use blink_rows::layout::{COUNT, ENTRY_WORDS, HIGH_KEY, RIGHT_LINK};
-use blink_rows::{HEAD_WORDS, ROW_WORDS, records_in, row_in};
+use blink_rows::{HEAD_WORDS, Kind, ROW_WORDS, Record, records_in, row_in};
 use std::hint;
 
 impl Live {
@@ -164,7 +164,8 @@ impl Live {
                 Turned::Ended(op.answer(kept))
             }
             Edit::Whole(word) => Turned::Whole(word),
-            Edit::Write(spot, splice) => {
+            Edit::Write(spot, change) => {
+                let splice = splice_of(&change);
                 self.put_leaf(seat, room, op, descent, &spot, &splice);
                 self.free_latch(seat, descent.leaf);
                 Turned::Ended(op.answer(spot.kept))
@@ -390,16 +391,17 @@ impl Descent {
 // What an operation that changes the tree makes of its leaf, where the key's place there is this.
 fn edit_of(op: Op, fan: u8, spot: Spot) -> Edit
     requires updates { IsUpdate op }
+    requires fits { FitsWords op }
     requires fan { IsFan fan }
     ensures { IsEditOf op fan spot result }
 {
     match op {
         Op::Insert(key, pointer) => insertion_of(fan, spot, key, pointer),
-        Op::Delete(_) => {
+        Op::Delete(key) => {
             if spot.kept.is_none() {
                 return Edit::Answers(None);
             }
-            removal(spot)
+            removal(spot, key)
         }
         Op::Replace(key, pointer) => {
             if spot.kept.is_none() {
@@ -413,11 +415,11 @@ fn edit_of(op: Op, fan: u8, spot: Spot) -> Edit
             }
             exchange(spot, key, pointer)
         }
-        Op::DeleteExact(_, expected) => {
+        Op::DeleteExact(key, expected) => {
             if !has(&spot, expected) {
                 return Edit::Answers(spot.kept);
             }
-            removal(spot)
+            removal(spot, key)
         }
         Op::Find(_) => unreachable!(),
     }
@@ -446,35 +448,59 @@ fn insertion_of(fan: u8, spot: Spot, key: u64, pointer: u64) -> Edit
     }
     Edit::Write(
         spot,
-        Splice {
-            gone: 0,
-            entry: Some((key, pointer)),
+        Record {
+            kind: Kind::Added,
+            key,
+            pointer,
         },
     )
 }
 
-// The entry goes.
-fn removal(spot: Spot) -> Edit
-    ensures { result ≡ Write spot (splice_of 1 None) }
+// The key is removed.
+fn removal(spot: Spot, key: u64) -> Edit
+    ensures { result ≡ Write spot (removal_of key) }
 {
     Edit::Write(
         spot,
-        Splice {
+        Record {
+            kind: Kind::Removed,
+            key,
+            pointer: 0,
+        },
+    )
+}
+
+// The key gets another pointer.
+fn exchange(spot: Spot, key: u64, pointer: u64) -> Edit
+    ensures { result ≡ Write spot (exchange_of key pointer) }
+{
+    Edit::Write(
+        spot,
+        Record {
+            kind: Kind::Replaced,
+            key,
+            pointer,
+        },
+    )
+}
+
+// How a row that is written anew differs by the change from the row before.
+fn splice_of(change: &Record) -> Splice
+    ensures { result ≡ splice_of change.now }
+{
+    let entry = (change.key, change.pointer);
+    match change.kind {
+        Kind::Replaced => Splice {
+            gone: 1,
+            entry: Some(entry),
+        },
+        Kind::Added => Splice {
+            gone: 0,
+            entry: Some(entry),
+        },
+        Kind::Removed => Splice {
             gone: 1,
             entry: None,
         },
-    )
-}
-
-// The entry gets another pointer.
-fn exchange(spot: Spot, key: u64, pointer: u64) -> Edit
-    ensures { result ≡ Write spot (splice_of 1 (Some (key, pointer))) }
-{
-    Edit::Write(
-        spot,
-        Splice {
-            gone: 1,
-            entry: Some((key, pointer)),
-        },
-    )
+    }
 }

@@ -1,11 +1,11 @@
 -- What an operation makes of its leaf, where it knows the key's place there.
-use Rattle.std.proofs.Common.{◌≡◌, ◌≢◌, ℕ, suc, ◌+◌, ◌<◌, ◌≤◌, Option, Some, None, List, ◌∷◌, ◌++◌, length, take, drop, refl, sym, ap, ◌∙◌, subst, arith}
+use Rattle.std.proofs.Common.{◌≡◌, ◌≢◌, ℕ, suc, ◌+◌, ◌^◌, ◌<◌, ◌≤◌, Option, Some, None, ◌∷◌, ◌++◌, length, take, drop, refl, sym, ap, ◌∙◌, subst, arith}
 use Rattle.std.specs.Prelude.{IsSome}
 use Rattle.std.proofs.lemmas.List.{set_split}
 use Rattle.blink_batch.specs.{answer_at, key_of}
 use Rattle.blink_batch.specs.declared.Op.{Op}
 use Rattle.blink_batch.specs.declared.Op.TheVariants.{Delete, Insert, Replace}
-use Rattle.blink_page.specs.{IsFan, IsLawfulPage, PlainPage, entries_with, least_above, place_of, removed, replaced, value_at, with_entries}
+use Rattle.blink_page.specs.{IsFan, IsKeyOf, IsLawfulPage, PlainPage, added, entries_with, least_above, place_of, removed, replaced, value_at, with_entries}
 use Rattle.blink_page.specs.declared.limits.TheConstants.{MAX_FAN}
 use Rattle.blink_page.proofs.Offered.{entries_with-leaf}
 use Rattle.blink_page.proofs.ChangedEntries.{length-added, length-removed, length-replaced}
@@ -19,13 +19,14 @@ use Rattle.blink_machine.specs.Machine.{entry_of, value_of_job}
 use Rattle.blink_machine.specs.Table.{Brings, IsChange, IsFullFor, Removes, Swaps}
 use Rattle.blink_live.specs.declared.descent.Edit.TheVariants.{Answers, Whole, Write}
 use Rattle.blink_live.specs.declared.descent.Spot.{Spot}
-use Rattle.blink_live.specs.Straight.{IsEditOf, IsSplice, IsSpot, splice_of}
+use Rattle.blink_rows.specs.{Fits}
+use Rattle.blink_live.specs.Straight.{IsEditOf, IsSplice, IsSpot, addition_of, exchange_of, removal_of, splice_of}
 
 -- ---- the entries at a key's place
 
 module _ (key : ℕ) (page : PlainPage) (spot : Spot) (lawful : IsLawfulPage MAX_FAN page) (at : IsSpot key page spot) where
   -- with the key's entry taken out
-  pub splices_removed : IsSome (value_at key page.entries) → IsSplice spot.place (splice_of 1 None) page (with_entries page (removed key page.entries))
+  pub splices_removed : IsSome (value_at key page.entries) → IsSplice spot.place (splice_of (removal_of key)) page (with_entries page (removed key page.entries))
   splices_removed found =
       let inside = place_found key (least_above page.floor) page.entries (page.high + 1) lawful.keys_rise found in
       let place = at.place in
@@ -40,7 +41,7 @@ module _ (key : ℕ) (page : PlainPage) (spot : Spot) (lawful : IsLawfulPage MAX
       }
 
   -- with another pointer
-  pub splices_replaced : (pointer : ℕ) → IsSome (value_at key page.entries) → IsSplice spot.place (splice_of 1 (Some (key, pointer))) page (with_entries page (replaced (key, pointer) page.entries))
+  pub splices_replaced : (pointer : ℕ) → IsSome (value_at key page.entries) → IsSplice spot.place (splice_of (exchange_of key pointer)) page (with_entries page (replaced (key, pointer) page.entries))
   splices_replaced pointer found =
       let inside = place_found key (least_above page.floor) page.entries (page.high + 1) lawful.keys_rise found in
       let place = at.place in
@@ -56,20 +57,17 @@ module _ (key : ℕ) (page : PlainPage) (spot : Spot) (lawful : IsLawfulPage MAX
       }
 
   -- with one entry more
-  pub splices_added : (fan pointer : ℕ) → length page.entries < fan → fan ≤ MAX_FAN → page.level ≡ 0 → IsSplice spot.place (splice_of 0 (Some (key, pointer))) page (with_entries page (entries_with page (key, pointer)))
-  splices_added fan pointer room small leaf =
+  pub splices_added : (fan pointer : ℕ) → length page.entries < fan → fan ≤ MAX_FAN → IsSplice spot.place (splice_of (addition_of key pointer)) page (with_entries page (added (key, pointer) page.entries))
+  splices_added fan pointer room small =
       let inside = place_at_most key page.entries in
       let place = at.place in
       let next : place_of key page.entries ≡ spot.place + 0 = omega (arith, place) in
       let longer = length-added key pointer page.entries in
-      let its_leaf = entries_with-leaf page (key, pointer) leaf in
-      let long = ap (λ (es : List (ℕ × ℕ)). length es) its_leaf in
       record {
         inside = omega (arith, inside, place);
-        is = ap (with_entries page) (its_leaf
-            ∙ added-place key pointer page.entries
+        is = ap (with_entries page) (added-place key pointer page.entries
             ∙ (λ i. take (sym place i) page.entries ++ (key, pointer) ∷ drop (next i) page.entries));
-        fits = omega (arith, longer, long, room, small);
+        fits = omega (arith, longer, room, small);
       }
 
 -- ---- each operation
@@ -78,7 +76,7 @@ module _ (key : ℕ) (page : PlainPage) (spot : Spot) (lawful : IsLawfulPage MAX
 its_target : (m : PlainMachine) (op : Op) → m.op ≡ op → m.job ≡ Leaf → key_of op ≡ target m
 its_target m op same_op leaf = sym ((λ i. key_of_job (same_op i) (leaf i)))
 
-pub removes : (op : Op) (fan key kept : ℕ) (spot : Spot) → key_of op ≡ key → Removes op key kept → spot.kept ≡ Some kept → IsEditOf op fan spot (Write spot (splice_of 1 None))
+pub removes : (op : Op) (fan key kept : ℕ) (spot : Spot) → key_of op ≡ key → Removes op key kept → spot.kept ≡ Some kept → IsEditOf op fan spot (Write spot (removal_of key))
 removes op fan key kept spot its_key how found m number page same_op same_fan leaf readable level lawful at =
     let at_key : IsSpot key page spot = subst (λ (k : ℕ). IsSpot k page spot) its_key at in
     let there : value_at key page.entries ≡ Some kept = sym at_key.kept ∙ found in
@@ -86,17 +84,19 @@ removes op fan key kept spot its_key how found m number page same_op same_fan le
     let after : PlainMachine = record m { state = Change number next spot.kept } in
     let below : target m ≤ page.high = subst (λ (k : ℕ). k ≤ page.high) (its_target m op same_op leaf) at.below in
     let change : IsChange m page next spot.kept = IsChange.loses key kept leaf (subst (λ (o : Op). Removes o key kept) (sym same_op) how) there found refl in
-    (after, (refl, (next, splices_removed key page spot lawful at_key (subst IsSome (sym there) refl), refl)), SeesUnderLatch.is_to_change next spot.kept below change refl)
+    let has : IsSome (value_at key page.entries) = subst IsSome (sym there) refl in
+    (after, (refl, record { leaf = level; pointer_in_range = omega arith; finds = has }, splices_removed key page spot lawful at_key has, refl), SeesUnderLatch.is_to_change next spot.kept below change refl)
 
-pub swaps : (op : Op) (fan key new kept : ℕ) (spot : Spot) → key_of op ≡ key → Swaps op key new kept → spot.kept ≡ Some kept → IsEditOf op fan spot (Write spot (splice_of 1 (Some (key, new))))
-swaps op fan key new kept spot its_key how found m number page same_op same_fan leaf readable level lawful at =
+pub swaps : (op : Op) (fan key new kept : ℕ) (spot : Spot) → new < 2 ^ 64 → key_of op ≡ key → Swaps op key new kept → spot.kept ≡ Some kept → IsEditOf op fan spot (Write spot (exchange_of key new))
+swaps op fan key new kept spot small its_key how found m number page same_op same_fan leaf readable level lawful at =
     let at_key : IsSpot key page spot = subst (λ (k : ℕ). IsSpot k page spot) its_key at in
     let there : value_at key page.entries ≡ Some kept = sym at_key.kept ∙ found in
     let next : PlainPage = with_entries page (replaced (key, new) page.entries) in
     let after : PlainMachine = record m { state = Change number next spot.kept } in
     let below : target m ≤ page.high = subst (λ (k : ℕ). k ≤ page.high) (its_target m op same_op leaf) at.below in
     let change : IsChange m page next spot.kept = IsChange.swaps key new kept leaf (subst (λ (o : Op). Swaps o key new kept) (sym same_op) how) there found refl in
-    (after, (refl, (next, splices_replaced key page spot lawful at_key new (subst IsSome (sym there) refl), refl)), SeesUnderLatch.is_to_change next spot.kept below change refl)
+    let has : IsSome (value_at key page.entries) = subst IsSome (sym there) refl in
+    (after, (refl, record { leaf = level; pointer_in_range = omega (arith, small); finds = has }, splices_replaced key page spot lawful at_key new has, refl), SeesUnderLatch.is_to_change next spot.kept below change refl)
 
 -- ---- an insertion
 
@@ -106,19 +106,22 @@ its_entry m key pointer same_op leaf = λ i. (key_of_job (same_op i) (leaf i), v
 it_brings : (m : PlainMachine) (key pointer : ℕ) → m.op ≡ Insert key pointer → m.job ≡ Leaf → Brings m.op m.job
 it_brings m key pointer same_op leaf = subst (λ (x : Op × Job). Brings x.0 x.1) (λ i. (sym same_op i, sym leaf i)) tt
 
-pub adds : (fan key pointer : ℕ) (spot : Spot) → IsFan fan → spot.kept ≡ None → spot.count < fan → IsEditOf (Insert key pointer) fan spot (Write spot (splice_of 0 (Some (key, pointer))))
-adds fan key pointer spot is_fan none room m number page same_op same_fan leaf readable level lawful at =
+pub adds : (fan key pointer : ℕ) (spot : Spot) → pointer < 2 ^ 64 → IsFan fan → spot.kept ≡ None → spot.count < fan → IsEditOf (Insert key pointer) fan spot (Write spot (addition_of key pointer))
+adds fan key pointer spot small is_fan none room m number page same_op same_fan leaf readable level lawful at =
     let count = at.count in
     let fans = is_fan.1 in
     let fewer : length page.entries < fan = omega (arith, count, room) in
-    let next : PlainPage = with_entries page (entries_with page (key, pointer)) in
+    let next : PlainPage = with_entries page (added (key, pointer) page.entries) in
     let after : PlainMachine = record m { state = Change number next spot.kept } in
     let target_is : key ≡ target m = its_target m (Insert key pointer) same_op leaf in
     let below : target m ≤ page.high = subst (λ (k : ℕ). k ≤ page.high) target_is at.below in
     let absent : value_at (target m) page.entries ≡ None = subst (λ (k : ℕ). value_at k page.entries ≡ None) target_is (sym at.kept ∙ none) in
     let change : IsChange m page next spot.kept = IsChange.gains (it_brings m key pointer same_op leaf) absent (omega (arith, fewer, same_fan)) none
-    (ap (λ (e : ℕ × ℕ). with_entries page (entries_with page e)) (sym (its_entry m key pointer same_op leaf))) in
-    (after, (refl, (next, splices_added key page spot lawful at fan pointer fewer (omega (arith, fans)) level, refl)), SeesUnderLatch.is_to_change next spot.kept below change refl)
+    (ap (with_entries page) (sym (entries_with-leaf page (key, pointer) level)) ∙ ap (λ (e : ℕ × ℕ). with_entries page (entries_with page e)) (sym (its_entry m key pointer same_op leaf))) in
+    let floor = readable.floor_below in
+    let belongs : IsKeyOf page key = (subst (λ (k : ℕ). least_above page.floor ≤ k) (sym target_is) floor, at.below) in
+    let fits : Fits MAX_FAN page (addition_of key pointer) = record { leaf = level; pointer_in_range = omega (arith, small); finds = (belongs, sym at.kept ∙ none, omega (arith, fewer, fans)) } in
+    (after, (refl, fits, splices_added key page spot lawful at fan pointer fewer (omega (arith, fans)), refl), SeesUnderLatch.is_to_change next spot.kept below change refl)
 
 pub splits : (fan key pointer : ℕ) (spot : Spot) → spot.kept ≡ None → fan ≤ spot.count → IsEditOf (Insert key pointer) fan spot (Whole spot.row)
 splits fan key pointer spot none no_room m number page same_op same_fan leaf readable level lawful at =

@@ -4,7 +4,7 @@ use Rattle.atomic_table.specs.declared.Seat.{Seat}
 use Rattle.blink_batch.specs.{key_of}
 use Rattle.blink_batch.specs.declared.Op.{Op}
 use Rattle.blink_page.specs.{PlainPage}
-use Rattle.blink_rows.specs.{PlainCounts, records_in, row_in}
+use Rattle.blink_rows.specs.{PlainCounts, page_after, records_in, row_in}
 use Rattle.blink_rows.proofs.Offered.{row_of_row}
 use Rattle.blink_live.proofs.table.VersionsOfPages.{row_is_below}
 use Rattle.blink_machine.specs.declared.machine.Next.TheVariants.{MoveRight}
@@ -25,7 +25,7 @@ use Rattle.blink_live.specs.AtomicSteps.{LoadsPage, PublishesPage}
 use Rattle.blink_live.specs.ComingBack.{puts_back}
 use Rattle.blink_live.specs.Seats.{HasSameNumber, IsPassSeat, IsSameSeat, ReadsPage, ReadsVersion}
 use Rattle.blink_live.specs.Shelves.{IsLent, IsSameBesideShelf, IsShelved, IsShelvedBut, free_in, stock_of}
-use Rattle.blink_live.specs.Straight.{HasMet, IsEditOf, IsSplice, IsSpot, IsToWrite, Makes, NeedsWhole, at_leaf, holding, leaving}
+use Rattle.blink_live.specs.Straight.{HasMet, IsEditOf, IsSplice, IsSpot, IsToWrite, Makes, NeedsWhole, at_leaf, holding, leaving, splice_of}
 use Rattle.blink_live.specs.Updating.{CanWrite, HasLeft, IsUnderWay, IsUpdating, UsesSpareFirst}
 use Rattle.blink_live.specs.Views.{IsCommon, IsOwned, SeatState, for_call, no_aside, takes_out}
 use Rattle.blink_live.specs.Words.{IsRowNumber}
@@ -108,19 +108,23 @@ module _ (live : Live) (op : Op) (descent : Descent) (first seat loaded next : S
             only = λ other its. loads.only other its ∙ (is_machine after sees ∙ makes.1);
             under_way = same_machine (now after sees) then makes.1;
           }
-      by_edit (Write its splice) makes =
+      by_edit (Write its r) makes =
           let same_spot : its ≡ spot = makes.0 in
           let here : its.row ≡ row_in word = ap (λ (s : Spot). s.row) same_spot ∙ row_is in
-          let changed : PlainPage = makes.1.0 in
+          let changed : PlainPage = page_after loads.page r in
           record {
-            page = loads.page;
-            next = changed;
-            reads = subst (λ (r : ℕ). ReadsPage next.me r loads.page) (sym here) reads_still;
-            in_range = subst (IsRowNumber live.counts) (sym here) row_there;
-            count = ap (λ (s : Spot). s.count) same_spot ∙ at.count;
-            splices = subst (λ (s : Spot). IsSplice s.place splice loads.page changed) (sym same_spot) makes.1.1;
-            under_way = subst (λ (s : Spot). IsUnderWay live op first next (at_leaf live.fan op descent (Change descent.leaf changed s.kept) None) room) (sym same_spot)
-                (same_machine (now after sees) (at_leaf live.fan op descent (Change descent.leaf changed spot.kept) None) makes.1.2);
+            writes = record {
+              page = loads.page;
+              next = changed;
+              reads = subst (λ (r : ℕ). ReadsPage next.me r loads.page) (sym here) reads_still;
+              in_range = subst (IsRowNumber live.counts) (sym here) row_there;
+              count = ap (λ (s : Spot). s.count) same_spot ∙ at.count;
+              splices = subst (λ (s : Spot). IsSplice s.place (splice_of r) loads.page changed) (sym same_spot) makes.2;
+              under_way = subst (λ (s : Spot). IsUnderWay live op first next (at_leaf live.fan op descent (Change descent.leaf changed s.kept) None) room) (sym same_spot)
+                  (same_machine (now after sees) (at_leaf live.fan op descent (Change descent.leaf changed spot.kept) None) makes.3);
+            };
+            fits = makes.1;
+            is_after = refl;
           }
 
     pub meets : (edit : Edit) (spot : Spot) → spot.row ≡ row_in word → IsSpot (key_of op) loads.page spot → IsEditOf op live.fan spot edit → HasMet live op descent first next room edit

@@ -28,4 +28,4 @@ pub returns : goal.returns
 returns c =
     let room = c.if-spot-from.false in
     let same = c.from.ensures in
-    adds c.args.fan c.args.key c.args.pointer c.args.spot c.requires (none_there c.args.spot.kept (sym c.is_some.ensures ∙ c.if-is_some.false)) (omega (arith, room, same))
+    adds c.args.fan c.args.key c.args.pointer c.args.spot (let range = c.ranges.pointer in omega (arith, range)) c.requires (none_there c.args.spot.kept (sym c.is_some.ensures ∙ c.if-is_some.false)) (omega (arith, room, same))

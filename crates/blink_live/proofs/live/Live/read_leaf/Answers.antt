@@ -37,6 +37,9 @@ spot_in-requires-clause-page c =
     let read = c.load_latched-word.ensures.read (holding c.args.self.now.fan c.args.op c.args.descent.now) (on.is_its_operation is (λ ends. absurd (cc))) refl in
     (read.1.page, subst (λ (row : ℕ). ReadsPage c.load_latched-word.new.seat.me row read.1.page) (sym c.row_in.ensures.row) (reads_it read.1 (none_there c.load_latched-word.result c.records_in.ensures.records c.if-records_in-gt0.false)))
 
+pub edit_of-requires-clause-fits : goal.edit_of-requires-clause-fits
+edit_of-requires-clause-fits c = c.requires.holds.1.can.fits
+
 pub returns-in-Ok : goal.returns-in-Ok
 returns-in-Ok c = λ first is.
     let read = c.load_latched-word.ensures.read (holding c.args.self.now.fan c.args.op c.args.descent.now) (on.is_its_operation is (λ ends. absurd (cc))) refl in
