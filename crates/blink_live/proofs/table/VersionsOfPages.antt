@@ -1,14 +1,15 @@
 -- What a page has in common with the base in its row.
-use Rattle.std.proofs.Common.{◌≡◌, ℕ, ◌<◌, List, [], ◌∷◌, length, refl, sym, ap, ◌∙◌, arith}
+use Rattle.std.proofs.Common.{◌≡◌, ℕ, ◌+◌, ◌*◌, ◌<◌, ◌≤◌, List, [], ◌∷◌, ◌++◌, length, refl, sym, ap, ◌∙◌, subst, arith}
 use Rattle.blink_page.specs.{IsLawfulPage, PlainPage}
 use Rattle.blink_page.specs.declared.limits.TheConstants.{MAX_FAN}
-use Rattle.blink_rows.specs.{page_with, records_in}
+use Rattle.blink_rows.specs.{Fits, IsLogged, counted, page_after, page_with, page_word, record_words, records_in}
 use Rattle.blink_rows.specs.Log.{log_words}
 use Rattle.blink_rows.specs.Naming.{row_in}
-use Rattle.blink_rows.specs.declared.limits.TheConstants.{ROW_LIMIT}
+use Rattle.blink_rows.specs.declared.limits.TheConstants.{HEAD_WORDS, MAX_RECORDS, ROW_LIMIT, ROW_WORDS}
 use Rattle.blink_rows.specs.declared.log.Record.{Record}
 use Rattle.blink_rows.specs.declared.naming.Records.{Records}
-use Rattle.blink_rows.proofs.Offered.{inner_has_none, logged_none, no_records_of_row}
+use Rattle.blink_rows.proofs.LogWords.{log_words-append}
+use Rattle.blink_rows.proofs.Offered.{inner_has_none, logged_more, logged_none, no_records_of_row, page_more, word_of_log}
 use Rattle.blink_live.specs.Words.{IsVersion}
 
 -- the row that a word names is one that a page word has room for
@@ -59,3 +60,33 @@ unlogged row page low = record {
   is = refl;
   logged = λ lawful. logged_none MAX_FAN page lawful (omega arith);
 }
+
+-- ---- one record more
+
+module _ {word : ℕ} {base page : PlainPage} {behind : List ℕ} (is : IsVersion word base behind page) (lawful : IsLawfulPage MAX_FAN page) (r : Record) (fits : Fits MAX_FAN page r)
+    (few : (records_in word).count < MAX_RECORDS) (room : HEAD_WORDS + 2 * (length base.entries + (records_in word).count + 1) ≤ ROW_WORDS) where
+  count_is : length is.records ≡ (records_in word).count
+  count_is = ap (λ (told : Records). told.count) is.counts
+
+  logged_then : IsLogged MAX_FAN base (is.records ++ r ∷ [])
+  logged_then = let many = count_is in logged_more MAX_FAN base is.records r (is.logged lawful) (subst (λ (p : PlainPage). Fits MAX_FAN p r) is.is fits) (omega (arith, many, few)) (omega (arith, many, room))
+
+  -- the page word that counts it names the same row
+  abbrev pub next_word : ℕ
+  next_word = page_word (row_in word) (counted (is.records ++ r ∷ []))
+
+  told_then : (row_in next_word ≡ row_in word) × (records_in next_word ≡ counted (is.records ++ r ∷ []))
+  told_then = word_of_log (row_in word) (is.records ++ r ∷ []) (row_is_below word) logged_then.few
+
+  pub same_row : row_in next_word ≡ row_in word
+  same_row = told_then.0
+
+  -- and with the record's words behind the others the row has the page after it
+  pub version_more : IsVersion next_word base (behind ++ record_words r) (page_after page r)
+  version_more = record {
+    records = is.records ++ r ∷ [];
+    words = ap (λ (ws : List ℕ). ws ++ record_words r) is.words ∙ sym (log_words-append is.records (r ∷ []));
+    counts = sym told_then.1;
+    is = ap (λ (p : PlainPage). page_after p r) is.is ∙ sym (page_more base is.records r);
+    logged = λ after. logged_then;
+  }
