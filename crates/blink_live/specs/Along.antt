@@ -1,5 +1,5 @@
 -- A seat that goes along the leaves: it reads a leaf that it has noted, and notes the leaf to the right.
-use Rattle.std.specs.Prelude.{◌≡◌, ℕ, ◌<◌, ◌≤◌, Some, List, Contains}
+use Rattle.std.specs.Prelude.{◌≡◌, ℕ, ◌<◌, ◌≤◌, Some, None, List, Contains}
 use mathlib.Core.List.{IsPrefix}
 use Rattle.atomic_table.specs.Table.{Step}
 use Rattle.blink_batch.specs.{pointer_of}
@@ -23,7 +23,7 @@ pub record IsNotedLeaf (counts : PlainCounts) (look : Look) (number : ℕ) : Typ
 -- ---- the load of the page word of a leaf that the seat has noted
 
 abbrev pub goes : View → ℕ → List ℕ → List ℕ → List Change → Look → View
-goes v row words behind seen look = record v { reads = Some (row, words); behind = behind; seen = seen; look = look }
+goes v row words behind seen look = record v { reads = Some (row, words); behind = behind; appends = None; seen = seen; look = look }
 
 -- the seat reads the leaf, and knows what all changes so far leave of each of its keys. It has noted the leaf to the right
 pub record GoesAlong (me : SeatState) (word : ℕ) (then : SeatState) : Type 0 where

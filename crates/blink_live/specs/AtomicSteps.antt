@@ -14,6 +14,7 @@ use Rattle.blink_machine.specs.declared.machine.State.TheVariants.{Going, Ended}
 use Rattle.blink_machine.specs.declared.step.Kind.{Kind}
 use Rattle.blink_machine.specs.declared.step.Step.TheVariants.{Moved}
 use Rattle.blink_machine.specs.{HasEnough, UsesUp, numbers_left, writes_left, primes_left, read_page, latch, unlatch, write_page, write_prime, IsReadable, PlainMachine, NeedsPrime, NeedsPage, NeedsLatch, NeedsNew, NeedsWrite, NeedsPrimeWrite, NeedsUnlatch, fresh, SeesPrime, WaitsForLevel, SeesPage, done, target}
+use Rattle.blink_live.specs.declared.view.Appending.{Appending}
 use Rattle.blink_live.specs.declared.view.Change.{Change}
 use Rattle.blink_live.specs.declared.view.Plan.{Plan}
 use Rattle.blink_live.specs.declared.view.Role.TheVariants.{Keeper}
@@ -23,7 +24,7 @@ use Rattle.blink_live.specs.declared.view.View.{View}
 use Rattle.blink_live.specs.Changes.{after, changes_made, states_of, Learns}
 use Rattle.blink_live.specs.Accounts.{KnowsAuthors}
 use Rattle.blink_live.specs.Looks.{TellsAll}
-use Rattle.blink_live.specs.Views.{SeatState, IsAnnounced, KnowsItsOwn, ShowsNoMore, for_call, going_on, has_pages, has_rows, is_busy, knows_word, stage_word, changed_by, publishes_from, reading, forgets_told, learns_of_others, span, takes_out, SawItsOwn}
+use Rattle.blink_live.specs.Views.{SeatState, IsAnnounced, KnowsItsOwn, ShowsNoMore, adds_one, for_call, going_on, has_pages, has_rows, is_busy, knows_word, stage_word, changed_by, publishes_from, reading, reading_page, forgets_told, learns_of_others, span, takes_out, SawItsOwn}
 use Rattle.blink_live.specs.Words.{AreNumbersIn, AreRowsIn, IsRowNumber, row_start, IsVersion}
 
 -- the page of this number has a page word
@@ -79,7 +80,7 @@ pub record LoadsPage (m : PlainMachine) (number : ℕ) (me : SeatState) (word : 
   pub behind : List ℕ
   pub way : ℕ
   pub seen : List Change
-  pub is : then ≡ (reading me.0 machine way (row_in word) (page_words base) behind seen, me.1)
+  pub is : then ≡ (reading_page me.0 machine way word (page_words base) behind seen, me.1)
   pub version : IsVersion word base behind page
   pub learns : Learns me.0 seen
   pub row_in_range : IsRowNumber me.0.plan.counts (row_in word)
@@ -230,6 +231,11 @@ knows_more st me found then = then ≡ (knows_word me.0 found, me.1)
 
 abbrev pub stores_word : Step ℕ → SeatState → ℕ → SeatState → Type 0
 stores_word st me found then = (place : ℕ) → place < ROW_WORDS → st.word ≡ row_start me.0.plan.counts me.0.call.rows.next + place → then ≡ (stage_word me.0 place st.first, me.1)
+
+-- ---- a word behind the fixed ones of the row of a page that the operation is to change
+
+abbrev pub adds_word : Step ℕ → SeatState → ℕ → SeatState → Type 0
+adds_word st me found then = (a : Appending) → me.0.appends ≡ Some a → then ≡ (adds_one me.0 a st.first, me.1)
 
 -- ---- a page word, which names the first row that the seat's call may use
 

@@ -13,6 +13,7 @@ use Rattle.blink_rows.specs.declared.span.Span.{Span}
 use Rattle.blink_machine.specs.{PlainMachine, descent_bound, IsMapAt}
 use Rattle.blink_machine.specs.TreeState.{TreeState}
 use Rattle.blink_machine.specs.Invariant.{Invariant}
+use Rattle.blink_live.specs.declared.view.Appending.{Appending}
 use Rattle.blink_live.specs.declared.view.Call.{Call}
 use Rattle.blink_live.specs.declared.view.Change.{Change}
 use Rattle.blink_live.specs.declared.view.Plan.{Plan}
@@ -85,6 +86,21 @@ latch_word owners (Some seat) = owners.latch_number seat
 abbrev pub ReadsRow : Plan → Owners → List ℕ → Option (ℕ × List ℕ) → List ℕ → Type 0
 ReadsRow plan owners words None behind = ⊤
 ReadsRow plan owners words (Some (row, content)) behind = IsPublished plan owners row × RowBegins plan.counts words row (content ++ behind) × (length (content ++ behind) ≤ owners.fixed row)
+
+-- the seat has held this page's latch since it loaded the page's word, which names the row that it reads. The words that it has
+-- stored there since stand behind the fixed ones
+pub record Appends (counts : PlainCounts) (fixed : ℕ → ℕ) (holder : ℕ → Option ℕ) (words : List ℕ) (seat : ℕ) (reads : Option (ℕ × List ℕ)) (behind : List ℕ) (a : Appending) : Type 0 where
+  pub content : List ℕ
+  pub in_range : (1 ≤ a.number) × (a.number < counts.numbers)
+  pub latched : holder a.number ≡ Some seat
+  pub named : slice_index words a.number ≡ a.word
+  pub row : reads ≡ Some (row_in a.word, content)
+  pub all_fixed : fixed (row_in a.word) ≡ length (content ++ behind)
+  pub begins : RowBegins counts words (row_in a.word) ((content ++ behind) ++ a.words)
+
+abbrev pub IsAppending : PlainCounts → (ℕ → ℕ) → (ℕ → Option ℕ) → List ℕ → ℕ → Option (ℕ × List ℕ) → List ℕ → Option Appending → Type 0
+IsAppending counts fixed holder words seat reads behind None = ⊤
+IsAppending counts fixed holder words seat reads behind (Some a) = Appends counts fixed holder words seat reads behind a
 
 -- and so are the rows that it has noted
 abbrev pub Reads : Plan → Owners → List ℕ → TreeState → View → Type 0
@@ -173,6 +189,7 @@ pub record Knows (plan : Plan) (owners : Owners) (words : List ℕ) (tree_state 
   pub operation : tree_state.machines seat ≡ v.operation
   pub bounded : IsBoundedWay tree_state v
   pub reads : Reads plan owners words tree_state v
+  pub appends : IsAppending plan.counts owners.fixed tree_state.holder words seat v.reads v.behind v.appends
   pub rows : HasRows plan owners (suc seat) v.rows
   pub numbers : HasNumbers plan owners tree_state (suc seat) v.pages
   pub for_call : HasForCall plan owners words tree_state (suc seat) v.call v.rows.next v.pages.next

@@ -51,7 +51,7 @@ marks_state st me found then = MarksState me then
 -- ---- the second load of a page word
 
 abbrev pub reads_again : View → ℕ → List ℕ → List ℕ → View
-reads_again v row words behind = record v { reads = Some (row, words); behind = behind }
+reads_again v row words behind = record v { reads = Some (row, words); behind = behind; appends = None }
 
 -- the seat reads the page. If it has noted this page word, the page tells of each of its keys what the changes of the marked tree
 -- state leave
@@ -92,4 +92,4 @@ IsSameBesideLook old new = new ≡ (record old.0 { look = new.0.look }, old.1)
 
 -- the seat knows what it knew, except for the row that it reads
 abbrev pub IsSameBesideRow : SeatState → SeatState → Type 0
-IsSameBesideRow old new = new ≡ (record old.0 { reads = new.0.reads; behind = new.0.behind }, old.1)
+IsSameBesideRow old new = new ≡ (record old.0 { reads = new.0.reads; behind = new.0.behind; appends = new.0.appends }, old.1)

@@ -32,7 +32,7 @@ room_for op rows pages = record { rows = span rows.next (rows.next + rows_of op)
 -- w is v, except for its operation, its share, what its call has stored, the rows that it has taken out, and what it reads and has
 -- seen
 abbrev pub SameBesideCall : View → View → Type 0
-SameBesideCall v w = w ≡ record v { operation = w.operation; descent_bound = w.descent_bound; reads = w.reads; behind = w.behind; seen = w.seen; share = w.share; call = w.call; stock = w.stock }
+SameBesideCall v w = w ≡ record v { operation = w.operation; descent_bound = w.descent_bound; reads = w.reads; behind = w.behind; appends = w.appends; seen = w.seen; share = w.share; call = w.call; stock = w.stock }
 
 -- the operation hasn't decided yet, and the share is as it was; or it has decided once since the beginning
 pub data HasDecided (op : Op) (first v : View) (m : PlainMachine) : Type 0 where

@@ -10,7 +10,11 @@ use Rattle.blink_index.specs.{map_of}
 use Rattle.blink_rows.specs.declared.limits.TheConstants.{MAX_ROWS_PER_INSERT}
 use Rattle.blink_page.specs.declared.limits.TheConstants.{MAX_NEW_PAGES_PER_INSERT}
 use Rattle.blink_rows.specs.declared.span.Span.{Span}
+use Rattle.blink_rows.specs.{row_in}
+use Rattle.blink_machine.specs.declared.machine.State.{State}
+use Rattle.blink_machine.specs.declared.machine.State.TheVariants.{Change as ToChange}
 use Rattle.blink_machine.specs.{PlainMachine, goes_on}
+use Rattle.blink_live.specs.declared.view.Appending.{Appending}
 use Rattle.blink_live.specs.declared.view.Aside.{Aside}
 use Rattle.blink_live.specs.declared.view.Call.{Call}
 use Rattle.blink_live.specs.declared.view.Change.{Change}
@@ -76,6 +80,7 @@ seat_for plan role rows pages share = record {
   descent_bound = 0;
   reads = None;
   behind = [];
+  appends = None;
   seen = [];
   told = [];
   look = no_look;
@@ -138,9 +143,18 @@ pub record KnowsItsOwn (v : View) : Type 0 where
 
 -- ---- reads
 
--- a page word was loaded that names this row with these words, and records behind them: the operation is `after` now
+-- an operation in this state is to change the page whose word was loaded, and has added nothing to its row yet; or to change none
+abbrev pub appending_at : ℕ → State → Option Appending
+appending_at word (ToChange number changed kept) = Some (record { number = number; word = word; words = no_words })
+appending_at word state = None
+
+-- the prime block's page word was loaded, which names this row with these words: the operation is `after` now
 abbrev pub reading : View → PlainMachine → ℕ → ℕ → List ℕ → List ℕ → List Change → View
-reading v after way row words behind seen = record v { operation = goes_on after after.state; descent_bound = way; reads = Some (row, words); behind = behind; seen = seen }
+reading v after way row words behind seen = record v { operation = goes_on after after.state; descent_bound = way; reads = Some (row, words); behind = behind; appends = None; seen = seen }
+
+-- the page word of a page was loaded, which names a row with these words, and records behind them
+abbrev pub reading_page : View → PlainMachine → ℕ → ℕ → List ℕ → List ℕ → List Change → View
+reading_page v after way word words behind seen = record (reading v after way (row_in word) words behind seen) { appends = appending_at word after.state }
 
 -- the number of the pass's rows that an operation takes when it begins, and of its page numbers
 abbrev pub rows_of : Op → ℕ
@@ -177,13 +191,13 @@ for_call v op = record v {
 
 -- w is v, except for its operation, and for what it reads and has seen
 abbrev pub SameBesideReads : View → View → Type 0
-SameBesideReads v w = w ≡ record v { operation = w.operation; descent_bound = w.descent_bound; reads = w.reads; behind = w.behind; seen = w.seen }
+SameBesideReads v w = w ≡ record v { operation = w.operation; descent_bound = w.descent_bound; reads = w.reads; behind = w.behind; appends = w.appends; seen = w.seen }
 
 -- ---- steps that read nothing
 
 -- the operation is `after` now
 abbrev pub going_on : View → PlainMachine → ℕ → View
-going_on v after way = record v { operation = goes_on after after.state; descent_bound = way }
+going_on v after way = record v { operation = goes_on after after.state; descent_bound = way; appends = None }
 
 -- other page numbers are beside
 abbrev pub with_spare : Span → Stock → Stock
@@ -198,7 +212,7 @@ has_pages v pages spare = record v { pages = pages; call = no_call; stock = with
 
 -- the place's word is this now, and the seat reads no row and has noted none
 abbrev pub is_busy : View → ℕ → View
-is_busy v busy = record v { busy = busy; reads = None; look = no_look }
+is_busy v busy = record v { busy = busy; reads = None; appends = None; look = no_look }
 
 -- these are the first words of the call's first row
 abbrev pub is_staged : View → List ℕ → View
@@ -211,6 +225,10 @@ knows_word v word = is_staged v (v.call.staged ++ word ∷ [])
 -- one of them was stored
 abbrev pub stage_word : View → ℕ → ℕ → View
 stage_word v place word = is_staged v (slice_set v.call.staged place word)
+
+-- one more word was stored behind the fixed ones of the row of the page that the operation is to change
+abbrev pub adds_one : View → Appending → ℕ → View
+adds_one v a word = record v { appends = Some (record a { words = a.words ++ word ∷ [] }) }
 
 -- a session's operation has made this change, or none
 abbrev pub adds : List Change → Share → Share
@@ -234,6 +252,7 @@ publishes_from v after way rows pages share seen stock = record v {
   call = record { rows = rows; pages = pages; staged = no_words };
   operation = goes_on after after.state;
   descent_bound = way;
+  appends = None;
   share = share;
   seen = seen;
   stock = stock;

@@ -48,4 +48,4 @@ pub use rule::{
 };
 pub use shelf::Shelf;
 pub use snapshot::NotedLeaf;
-pub use view::{Aside, Call, Change, Look, Opened, Plan, Role, Share, Stock, View};
+pub use view::{Appending, Aside, Call, Change, Look, Opened, Plan, Role, Share, Stock, View};

@@ -168,6 +168,15 @@ impl Play<u8, View> for StoreWord {
     ghost then = { stores_word };
 }
 
+/// The store of a word behind the fixed ones, in the row of a page that the seat's operation is to change.
+pub struct AddWord;
+
+impl Play<u8, View> for AddWord {
+    ghost use Rattle.blink_live.specs.AtomicSteps.{adds_word};
+
+    ghost then = { adds_word };
+}
+
 /// The store of a page's word, which names that row from then on.
 pub struct Publish;
 

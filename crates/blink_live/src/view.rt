@@ -97,6 +97,14 @@ pub struct Call {
     pub staged: LinkedList<u64>,
 }
 
+/// The page whose latch a seat has held since it loaded the page's word: the word, and the words that the seat has stored behind
+/// those that this page word counts.
+pub struct Appending {
+    pub number: u64,
+    pub word: u64,
+    pub words: LinkedList<u64>,
+}
+
 /// What a seat knows.
 pub struct View {
     pub plan: Plan,
@@ -125,6 +133,8 @@ pub struct View {
     /// words of the records behind these.
     pub reads: Option<(u64, LinkedList<u64>)>,
     pub behind: LinkedList<u64>,
+    /// Where the operation under way is to change the page of this row: what it has added to the row.
+    pub appends: Option<Appending>,
     /// The changes of all keys that the seat has seen, and those of the note that it holds.
     pub seen: LinkedList<Change>,
     pub told: LinkedList<Change>,

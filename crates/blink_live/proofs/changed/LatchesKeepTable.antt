@@ -11,6 +11,7 @@ use Rattle.atomic_table.specs.Table.{State, Act, Valid, stepped, carried_after, 
 use Rattle.atomic_table.proofs.Lists.{exchanged, set_again}
 use lib.Seq.{set-get_or}
 use Rattle.blink_batch.specs.{FitsWords}
+use Rattle.blink_rows.specs.{row_in}
 use Rattle.blink_machine.specs.declared.machine.Need.TheVariants.{Latch, Unlatch}
 use Rattle.blink_machine.specs.declared.step.Step.TheVariants.{Moved}
 use Rattle.blink_machine.specs.declared.step.Kind.TheVariants as kind
@@ -76,6 +77,7 @@ module _ (plan : Plan) (s : State ℕ View) (tree_state : TreeState) (h : IsTabl
       get_or-set_other s.words (plan.counts.numbers + number) n x 0 (λ e. omega (arith, e, few)),
       row_stays plan s.words (plan.counts.numbers + number) x (named_row s.words n) (omega (arith, in_range)),
     );
+    latched_fixed = λ seat n other holds least few published. refl;
     numbers = λ n apart shared. (refl, λ free. free);
     keys = λ owned key apart. (refl, refl, refl);
     nobodys = h.nobodys;
@@ -98,6 +100,7 @@ module _ (plan : Plan) (s : State ℕ View) (tree_state : TreeState) (h : IsTabl
         operation = put_here tree_state.machines id (goes_on after after.state);
         bounded = bounded;
         reads = seat_reads_still plan s tree_state then h id kept.0 words h.owners h.log leaves v known.reads;
+        appends = tt;
         rows = known.rows;
         numbers = record { in_range = known.numbers.in_range; own = known.numbers.own; free = known.numbers.free };
         for_call = call_kept plan h.owners s.words words stays tree_state then (suc id) v.call v.rows.next v.pages.next (λ n own free. free) known.for_call;
@@ -150,7 +153,7 @@ module _ (plan : Plan) (s : State ℕ View) (tree_state : TreeState) (h : IsTabl
   passes_latch invariant bounded is some_number =
       let kept = subst (IsInRole plan h.owners h.log id v) role (h.views id v at).in_role in
       store_keeps plan s tree_state then h id (plan.counts.numbers + number) x kept.0 v w at h.owners h.log h.now leaves (stored invariant is some_number) refl refl (λ common. accounts_stay plan h.owners.place h.log s.views id v w at (h.accounted common) refl ((h.accounted common).saw_own id v at))
-      (λ common. reuse_stays plan h.owners.row s.words s.views id v w at (h.reuse common) h.owners.row words (λ row is. is) (λ seat r later is apart. is) (λ n few. get_or-set_other s.words (plan.counts.numbers + number) n x 0 (λ e. omega (arith, e, few))) refl (hand_stays h.owners.row id v w refl refl) (same_reads plan h.owners.row s.words s.views id v w at (h.reuse common) refl refl refl refl refl)) (knows bounded)
+      (λ common. reuse_stays plan h.owners.row s.words s.views id v w at (h.reuse common) h.owners.row words (λ row is. is) (λ seat r later is apart. is) (λ n few. ap row_in (get_or-set_other s.words (plan.counts.numbers + number) n x 0 (λ e. omega (arith, e, few)))) refl (hand_stays h.owners.row id v w refl refl) (same_reads plan h.owners.row s.words s.views id v w at (h.reuse common) refl refl refl refl refl)) (knows bounded)
 
 -- ---- the latch is got, or not
 

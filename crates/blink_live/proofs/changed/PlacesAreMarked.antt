@@ -4,6 +4,7 @@ use Rattle.std.specs.Prelude.{slice_index}
 use mathlib.Core.Option.{some, none}
 use lib.ListN.{get_elem?}
 use Rattle.atomic_table.specs.Table.{State, step, keeps, Allows}
+use Rattle.blink_rows.specs.{row_in}
 use Rattle.blink_machine.specs.{PlainMachine}
 use Rattle.blink_machine.specs.TreeState.{TreeState}
 use Rattle.blink_live.specs.declared.view.Plan.{Plan}
@@ -61,6 +62,7 @@ module _ (plan : Plan) (s : State ℕ View) (tree_state : TreeState) (h : IsTabl
     rows = λ row least most apart shared. (refl, λ i inside few. stays row least most i inside);
     fixed = λ row unowned. omega arith;
     latched = λ seat n other holds least few published. (holds, before n (omega (arith, few)), stays (named_row s.words n) published.0.0 published.0.1);
+    latched_fixed = λ seat n other holds least few published. refl;
     numbers = λ n apart shared. (refl, λ free. free);
     keys = λ owned key apart. (refl, refl, refl);
     nobodys = h.nobodys;
@@ -80,6 +82,7 @@ module _ (plan : Plan) (s : State ℕ View) (tree_state : TreeState) (h : IsTabl
     operation = known.operation;
     bounded = known.bounded;
     reads = (tt, nothing_noted plan h.owners.row words tree_state.fan tree_state.prime tree_state.pages);
+    appends = tt;
     rows = known.rows;
     numbers = record { in_range = known.numbers.in_range; own = known.numbers.own; free = known.numbers.free };
     for_call = call_kept plan h.owners s.words words stays tree_state tree_state (suc id) v.call v.rows.next v.pages.next (λ n own free. free) known.for_call;
@@ -114,7 +117,7 @@ module _ (plan : Plan) (s : State ℕ View) (tree_state : TreeState) (h : IsTabl
     is_map = h.is_map;
     kept = h.kept;
   } refl refl (λ is_common. accounts_stay plan h.owners.place h.log s.views id v w at (h.accounted is_common) refl ((h.accounted is_common).saw_own id v at))
-      (λ is_common. reuse_stays plan h.owners.row s.words s.views id v w at (h.reuse is_common) h.owners.row words (λ row is. is) (λ seat r later is apart. is) (λ n few. before n (omega (arith, few))) refl (hand_stays h.owners.row id v w refl refl) (λ row content is. absurd (holds_nothing w refl refl row content is))) knows
+      (λ is_common. reuse_stays plan h.owners.row s.words s.views id v w at (h.reuse is_common) h.owners.row words (λ row is. is) (λ seat r later is apart. is) (λ n few. ap row_in (before n (omega (arith, few)))) refl (hand_stays h.owners.row id v w refl refl) (λ row content is. absurd (holds_nothing w refl refl row content is))) knows
 
 -- each change that a seat has seen was made at one of the places
 authors_seen : (plan : Plan) (s : State ℕ View) (tree_state : TreeState) (h : IsTableAt plan s tree_state) (id : ℕ) (v : View) → get_elem? s.views id ≡ some v → IsCommon plan → HaveAuthors v.plan.places v.seen

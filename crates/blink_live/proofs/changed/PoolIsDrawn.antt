@@ -9,6 +9,7 @@ use lib.Seq.{set-get_or}
 use prog.Atomic.{either}
 use Rattle.atomic_table.specs.Table.{State, Act, Valid, stepped, carried_after, step, keeps, Allows}
 use Rattle.atomic_table.proofs.Lists.{exchanged, set_again}
+use Rattle.blink_rows.specs.{row_in}
 use Rattle.blink_machine.specs.TreeState.{TreeState}
 use Rattle.blink_rows.specs.declared.span.Span.{Span}
 use Rattle.blink_live.specs.declared.view.Plan.{Plan}
@@ -24,7 +25,7 @@ use Rattle.blink_live.specs.Words.{named_row, place_word, pool_page, pool_row, r
 use Rattle.blink_live.proofs.table.CallsOfSeats.{nothing_for_call}
 use Rattle.blink_live.proofs.reuse.ReuseStaysSafe.{reuse_beside, reuse_stays, same_reads}
 use Rattle.blink_live.proofs.table.AccountsStay.{accounts_stay}
-use Rattle.blink_live.proofs.table.OthersKnowTheSame.{LeavesOthers, RowStays, page_word_still, seat_reads_still}
+use Rattle.blink_live.proofs.table.OthersKnowTheSame.{LeavesOthers, appends_stay, RowStays, page_word_still, seat_reads_still}
 use Rattle.blink_live.proofs.table.OwnersInRange.{ranged, ranged_in, ranged_out}
 use Rattle.blink_live.proofs.table.RowsAreNamed.{same_names}
 use Rattle.blink_live.proofs.table.StoresKeepTable.{prime_still, store_keeps}
@@ -106,6 +107,7 @@ module _ (plan : Plan) (s : State ℕ View) (tree_state : TreeState) (h : IsTabl
       rows = λ row least most apart shared. (row_else row (shared common), λ i inside few. stays 1 (omega arith) (omega arith) row least most i inside);
       fixed = λ row unowned. omega arith;
       latched = λ seat n other holds least few published. (holds, before 1 (omega arith) (omega arith) n (omega (arith, few)), stays 1 (omega arith) (omega arith) (named_row s.words n) published.0.0 published.0.1);
+      latched_fixed = λ seat n other holds least few published. refl;
       numbers = λ number apart shared. (refl, λ free. free);
       keys = λ owned key apart. (refl, refl, refl);
       nobodys = h.nobodys;
@@ -131,6 +133,8 @@ module _ (plan : Plan) (s : State ℕ View) (tree_state : TreeState) (h : IsTabl
       operation = known.operation;
       bounded = known.bounded;
       reads = seat_reads_still plan s tree_state tree_state h id kept.0 (words 1 (omega arith) (omega arith)) row_owners h.log rows_leave v known.reads;
+      appends = appends_stay plan h.owners row_owners s.words (words 1 (omega arith) (omega arith)) tree_state.holder tree_state.holder id v.reads v.behind v.appends
+          (λ n holds least few published. (holds, before 1 (omega arith) (omega arith) n (omega (arith, few)), stays 1 (omega arith) (omega arith) (named_row s.words n) published.0.0 published.0.1, refl)) known.reads.0 known.appends;
       rows = record {
         in_range = (pool_rows.in_range.0, end);
         own = λ row low high. ranged_in old new (suc id) h.owners.row row low high;
@@ -158,7 +162,7 @@ module _ (plan : Plan) (s : State ℕ View) (tree_state : TreeState) (h : IsTabl
     rows_drawn = draw_keeps 1 (omega arith) (omega arith) row_owners (has_rows v (span old new)) rows_leave refl refl refl refl refl (accounts_stay plan h.owners.place h.log s.views id v (has_rows v (span old new)) at (h.accounted common) refl ((h.accounted common).saw_own id v at))
         (reuse_stays plan h.owners.row s.words s.views id v (has_rows v (span old new)) at (h.reuse common) row_owners.row (words 1 (omega arith) (omega arith)) (λ row is. row_else row (λ e. let one : 0 ≡ suc 0 = sym is ∙ e in omega (arith, one)) ∙ is)
         (λ seat row later is apart. row_else row (λ e. let one : suc seat ≡ suc 0 = sym is ∙ e in omega (arith, one, later)) ∙ is)
-        (λ n few. before 1 (omega arith) (omega arith) n (omega (arith, few))) refl drawn_rows (same_reads plan h.owners.row s.words s.views id v (has_rows v (span old new)) at (h.reuse common) refl refl refl refl refl)) rows_knows
+        (λ n few. ap row_in (before 1 (omega arith) (omega arith) n (omega (arith, few)))) refl drawn_rows (same_reads plan h.owners.row s.words s.views id v (has_rows v (span old new)) at (h.reuse common) refl refl refl refl refl)) rows_knows
 
   -- ---- page numbers
 
@@ -179,6 +183,7 @@ module _ (plan : Plan) (s : State ℕ View) (tree_state : TreeState) (h : IsTabl
       rows = λ row least most apart shared. (refl, λ i inside few. stays 2 (omega arith) (omega arith) row least most i inside);
       fixed = λ row unowned. omega arith;
       latched = λ seat n other holds least few published. (holds, before 2 (omega arith) (omega arith) n (omega (arith, few)), stays 2 (omega arith) (omega arith) (named_row s.words n) published.0.0 published.0.1);
+      latched_fixed = λ seat n other holds least few published. refl;
       numbers = λ number apart shared. (page_else number (shared common), λ free. free);
       keys = λ owned key apart. (refl, refl, refl);
       nobodys = h.nobodys;
@@ -236,6 +241,8 @@ module _ (plan : Plan) (s : State ℕ View) (tree_state : TreeState) (h : IsTabl
         operation = known.operation;
         bounded = known.bounded;
         reads = seat_reads_still plan s tree_state tree_state h id kept.0 (words 2 (omega arith) (omega arith)) page_owners h.log pages_leave v known.reads;
+        appends = appends_stay plan h.owners page_owners s.words (words 2 (omega arith) (omega arith)) tree_state.holder tree_state.holder id v.reads v.behind v.appends
+            (λ n holds least few published. (holds, before 2 (omega arith) (omega arith) n (omega (arith, few)), stays 2 (omega arith) (omega arith) (named_row s.words n) published.0.0 published.0.1, refl)) known.reads.0 known.appends;
         rows = record { in_range = known.rows.in_range; own = known.rows.own };
         numbers = record {
           in_range = (least, end);
@@ -257,7 +264,7 @@ module _ (plan : Plan) (s : State ℕ View) (tree_state : TreeState) (h : IsTabl
       pages_drawn : IsTable plan record { words = words 2 (omega arith) (omega arith); homes = s.homes; views = set s.views id (has_pages v (span low new) spare) }
       pages_drawn = draw_keeps 2 (omega arith) (omega arith) page_owners (has_pages v (span low new) spare) pages_leave refl refl refl refl refl (accounts_stay plan h.owners.place h.log s.views id v (has_pages v (span low new) spare) at (h.accounted common) refl ((h.accounted common).saw_own id v at))
           (reuse_beside plan h.owners.row s.words s.views id v (has_pages v (span low new) spare) at (h.reuse common) page_owners.row (words 2 (omega arith) (omega arith)) (λ row is. is) (λ seat r later is apart. is)
-          (λ n few. before 2 (omega arith) (omega arith) n (omega (arith, few))) spare refl (no_call_rows id v (span low new) spare) (same_reads plan h.owners.row s.words s.views id v (has_pages v (span low new) spare) at (h.reuse common) refl refl refl refl refl)) pages_knows
+          (λ n few. ap row_in (before 2 (omega arith) (omega arith) n (omega (arith, few)))) spare refl (no_call_rows id v (span low new) spare) (same_reads plan h.owners.row s.words s.views id v (has_pages v (span low new) spare) at (h.reuse common) refl refl refl refl refl)) pages_knows
 
 -- ---- the steps
 

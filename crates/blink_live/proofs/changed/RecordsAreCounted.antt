@@ -120,6 +120,7 @@ module _ (plan : Plan) (s : State ℕ View) (tree_state then : TreeState) (h : I
         word_else n (λ same. other (let e : Some seat ≡ Some id = sym holds ∙ (ap tree_state.holder same ∙ latched) in cc)),
         stays (named_row s.words n),
       );
+      latched_fixed = λ seat n other holds least few published. fixed_else (named_row s.words n) (row_else n few (λ same. other (let e : Some seat ≡ Some id = sym holds ∙ (ap tree_state.holder same ∙ latched) in cc)));
       numbers = λ n apart shared. (refl, step.others_free n apart);
       keys = λ owned key apart. (
         refl,
@@ -167,6 +168,7 @@ module _ (plan : Plan) (s : State ℕ View) (tree_state then : TreeState) (h : I
       operation = step.own;
       bounded = bounded;
       reads = seat_reads_still plan s tree_state then h id kept.0 words new log leaves v known.reads;
+      appends = tt;
       rows = same_rows v.rows known.rows;
       numbers = same_numbers v.pages step.own_free;
       for_call = record {

@@ -79,6 +79,7 @@ module _ (plan : Plan) (some_number : 1 ≤ plan.counts.numbers) (s : State ℕ 
     operation = put_here tree_state.machines id v.operation;
     bounded = known.bounded;
     reads = known.reads;
+    appends = known.appends;
     rows = back_rows;
     numbers = back_numbers;
     for_call = nothing_for_call plan h.owners s.words then (suc id) v.call.rows.next v.call.pages.next some_row known.for_call.numbers.in_range.0 some_number;

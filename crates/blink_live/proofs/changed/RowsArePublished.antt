@@ -154,6 +154,7 @@ module _ (plan : Plan) (s : State ℕ View) (tree_state then : TreeState) (h : I
           get_or-set_other s.words number n v.call.rows.next 0 (λ same. not_anothers seat other (ap tree_state.holder (sym same) ∙ holds) (subst (λ (k : ℕ). 1 ≤ k) same least) (subst (λ (k : ℕ). IsPublished plan h.owners (named_row s.words k)) same is)),
           stays (named_row s.words n),
         );
+        latched_fixed = λ seat n other holds least few published. fixed_else (named_row s.words n) published.1;
         numbers = λ n apart shared. (refl, step.others_free n apart);
         keys = λ owned key apart. (
           refl,
@@ -200,6 +201,7 @@ module _ (plan : Plan) (s : State ℕ View) (tree_state then : TreeState) (h : I
             operation = step.own;
             bounded = bounded;
             reads = seat_reads_still plan s tree_state then h id kept.0 words new log leaves v known.reads;
+            appends = tt;
             rows = later_rows v.rows (let before_rows = known.for_call.before.0 in omega (arith, before_rows, room)) known.rows;
             numbers = still_numbers v.pages step.own_free;
             for_call = record {

@@ -7,6 +7,7 @@ use native.Mathlib.Decide.{ℕ_discrete}
 use lib.ListN.{get_elem?}
 use Rattle.atomic_table.specs.Table.{State, step, keeps, Allows}
 use Rattle.blink_rows.specs.declared.limits.TheConstants.{ROW_WORDS}
+use Rattle.blink_rows.specs.{row_in}
 use Rattle.blink_machine.specs.TreeState.{TreeState}
 use Rattle.blink_live.specs.declared.view.Plan.{Plan}
 use Rattle.blink_live.specs.declared.view.Role.TheVariants.{Pass, Keeper}
@@ -20,7 +21,7 @@ use Rattle.blink_live.specs.Words.{named_row, row_start, RowBegins, place_word, 
 use Rattle.blink_live.proofs.table.PoolStays.{pool_stays}
 use Rattle.blink_live.proofs.reuse.ReuseStaysSafe.{hand_stays, reuse_stays, same_reads}
 use Rattle.blink_live.proofs.table.AccountsStay.{accounts_stay}
-use Rattle.blink_live.proofs.table.OthersKnowTheSame.{LeavesOthers, RowStays, page_word_still, seat_reads_still}
+use Rattle.blink_live.proofs.table.OthersKnowTheSame.{LeavesOthers, appends_stay, RowStays, page_word_still, seat_reads_still}
 use Rattle.blink_live.proofs.table.LoadsKeepTable.{moved, load_keeps_with}
 use Rattle.blink_live.proofs.table.MapsWithOneChange.{put_here, put_same}
 use Rattle.blink_live.proofs.table.RowsAreNamed.{same_names}
@@ -83,6 +84,7 @@ module _ (plan : Plan) (s : State ℕ View) (tree_state : TreeState) (h : IsTabl
       get_or-set_other s.words place n x 0 (λ e. omega (arith, e, few)),
       other_row_stays plan s.words row (named_row s.words n) i x some_row published.0.0 (λ same. let zero_is : 0 ≡ suc id = sym published.1 ∙ (ap h.owners.row same ∙ (known.for_call.first_own room).1) in omega (arith, zero_is)) inside,
     );
+    latched_fixed = λ seat n other holds least few published. refl;
     numbers = λ n apart shared. (refl, λ free. free);
     keys = λ owned key apart. (refl, refl, refl);
     nobodys = h.nobodys;
@@ -118,6 +120,13 @@ module _ (plan : Plan) (s : State ℕ View) (tree_state : TreeState) (h : IsTabl
     operation = known.operation;
     bounded = known.bounded;
     reads = seat_reads_still plan s tree_state tree_state h id kept.0 words h.owners h.log leaves v known.reads;
+    appends = appends_stay plan h.owners h.owners s.words words tree_state.holder tree_state.holder id v.reads v.behind v.appends
+        (λ n holds least few published. (
+          holds,
+          get_or-set_other s.words place n x 0 (λ e. omega (arith, e, few)),
+          other_row_stays plan s.words row (named_row s.words n) i x some_row published.0.0 (λ same. let zero_is : 0 ≡ suc id = sym published.1 ∙ (ap h.owners.row same ∙ (known.for_call.first_own room).1) in omega (arith, zero_is)) inside,
+          refl,
+        )) known.reads.0 known.appends;
     rows = known.rows;
     numbers = known.numbers;
     for_call = record {
@@ -156,7 +165,7 @@ module _ (plan : Plan) (s : State ℕ View) (tree_state : TreeState) (h : IsTabl
     is_map = h.is_map;
     kept = h.kept;
   } refl refl (λ common. accounts_stay plan h.owners.place h.log s.views id v w at (h.accounted common) refl ((h.accounted common).saw_own id v at))
-      (λ common. reuse_stays plan h.owners.row s.words s.views id v w at (h.reuse common) h.owners.row words (λ r is. is) (λ seat r later is apart. is) (λ n few. before_rows n (omega (arith, few))) refl (hand_stays h.owners.row id v w refl refl) (same_reads plan h.owners.row s.words s.views id v w at (h.reuse common) refl refl refl refl refl)) knows
+      (λ common. reuse_stays plan h.owners.row s.words s.views id v w at (h.reuse common) h.owners.row words (λ r is. is) (λ seat r later is apart. is) (λ n few. ap row_in (before_rows n (omega (arith, few)))) refl (hand_stays h.owners.row id v w refl refl) (same_reads plan h.owners.row s.words s.views id v w at (h.reuse common) refl refl refl refl refl)) knows
 
 pub word_is_staged : (plan : Plan) (slots id i x : ℕ) (me : SeatState) → me.0.role ≡ Pass → me.0.call.rows.next < me.0.call.rows.stop → i < ROW_WORDS → 1 ≤ plan.counts.numbers
     → Allows (IsTable plan) slots id me (row_start plan.counts me.0.call.rows.next + i) (λ n. x) (λ n. stores_word (step slots (row_start plan.counts me.0.call.rows.next + i) x 0 none) me x)
@@ -190,6 +199,7 @@ module _ (plan : Plan) (s : State ℕ View) (tree_state : TreeState) (h : IsTabl
         operation = put_here tree_state.machines id v.operation;
         bounded = known.bounded;
         reads = known.reads;
+        appends = known.appends;
         rows = known.rows;
         numbers = record { in_range = known.numbers.in_range; own = known.numbers.own; free = known.numbers.free };
         for_call = record {

@@ -27,7 +27,7 @@ use Rattle.blink_live.specs.Changes.{changes_made, has_changed}
 use Rattle.blink_live.specs.AtomicSteps.{AnswersAfter, AsksPrime, state_after, CanGoOn, Decided, deciding, other, GoesOn, LoadsPage, LoadsPrime, PublishesFrom}
 use Rattle.blink_live.specs.Updating.{SameBesideCall, IsPastDescent}
 use Rattle.blink_live.proofs.changed.ChangesAreTheMaps.{map_unchanged, none_made, refusal_changes_nothing}
-use Rattle.blink_live.specs.Views.{SeatState, KnowsItsOwn, changed_by, reading}
+use Rattle.blink_live.specs.Views.{SeatState, KnowsItsOwn, changed_by, reading_page}
 
 -- what a step of the operation makes of it and of its seat's view, but for what the call has left
 pub record Takes (m after : PlainMachine) (me then : SeatState) : Type 0 where
@@ -159,8 +159,8 @@ module _ (m after : PlainMachine) (number : ℕ) (page : PlainPage) (v : View) (
 
 pub page_takes : (m after : PlainMachine) (number word : ℕ) (me then : SeatState) → IsPastDescent m.state → LoadsPage m number me word after then → Takes m after me then
 page_takes m after number word me then past loads =
-    let is : then ≡ (reading me.0 after loads.way (row_in word) (page_words loads.base) loads.behind loads.seen, me.1) = loads.is in
-    let known : KnowsItsOwn (reading me.0 after loads.way (row_in word) (page_words loads.base) loads.behind loads.seen) = subst (λ (x : SeatState). KnowsItsOwn x.0) is loads.knows_own in
+    let is : then ≡ (reading_page me.0 after loads.way word (page_words loads.base) loads.behind loads.seen, me.1) = loads.is in
+    let known : KnowsItsOwn (reading_page me.0 after loads.way word (page_words loads.base) loads.behind loads.seen) = subst (λ (x : SeatState). KnowsItsOwn x.0) is loads.knows_own in
     let reads = page_decides m after number loads.page me.0 loads.seen loads.learns.saw (known.state (key_of m.op)) loads.answers past loads.sees in record {
       same = (subst (λ (x : SeatState). SameBesideCall me.0 x.0) (sym is) refl, ap (λ (x : SeatState). x.1) is);
       saw = subst (λ (x : SeatState). IsPrefix me.0.seen x.0.seen) (sym is) loads.learns.saw;

@@ -27,7 +27,7 @@ within_call v w same =
     let share : v.share ≡ w.share = sym (ap (λ (x : View). x.share) same) in
     let call : v.call ≡ w.call = sym (ap (λ (x : View). x.call) same) in
     let stock : v.stock ≡ w.stock = sym (ap (λ (x : View). x.stock) same) in
-    same ∙ (λ i. record v { operation = w.operation; descent_bound = w.descent_bound; reads = w.reads; behind = w.behind; seen = w.seen; share = share i; call = call i; stock = stock i })
+    same ∙ (λ i. record v { operation = w.operation; descent_bound = w.descent_bound; reads = w.reads; behind = w.behind; appends = w.appends; seen = w.seen; share = share i; call = call i; stock = stock i })
 
 -- an operation that wants its leaf's latch
 abbrev wanting : PlainMachine → ℕ → Op → PlainMachine

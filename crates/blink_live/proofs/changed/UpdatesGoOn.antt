@@ -39,7 +39,7 @@ use Rattle.blink_live.proofs.changed.StepsOfUpdates.{Takes, latch_answers, unlat
 
 same_call_trans : (u v w : View) → SameBesideCall u v → SameBesideCall v w → SameBesideCall u w
 same_call_trans u v w first second =
-    second ∙ ap (λ (x : View). record x { operation = w.operation; descent_bound = w.descent_bound; reads = w.reads; behind = w.behind; seen = w.seen; share = w.share; call = w.call; stock = w.stock }) first
+    second ∙ ap (λ (x : View). record x { operation = w.operation; descent_bound = w.descent_bound; reads = w.reads; behind = w.behind; appends = w.appends; seen = w.seen; share = w.share; call = w.call; stock = w.stock }) first
 
 -- it has decided once
 module _ (op : Op) (first now then : View) (m after : PlainMachine) (same : m.op ≡ op) (same_plan : now.plan ≡ first.plan) (same_place : now.place ≡ first.place) (saw : IsPrefix first.seen now.seen) where

@@ -153,6 +153,7 @@ module _ (plan : Plan) (s : State ℕ View) (tree_state : TreeState) (h : IsTabl
     operation = known.operation;
     bounded = known.bounded;
     reads = seat_reads_still plan old new s.words h.log published tree_state v known.reads;
+    appends = known.appends;
     rows = record {
       in_range = (let low = known.rows.in_range.0 in omega (arith, low), known.rows.in_range.1);
       own = λ row low high. ranged_out v.rows.next (v.rows.next + rows) (suc new_seat) old.row row (λ a b. omega (arith, low, b)) ∙ known.rows.own row (omega (arith, low)) high;
@@ -204,6 +205,7 @@ module _ (plan : Plan) (s : State ℕ View) (tree_state : TreeState) (h : IsTabl
     operation = h.others_idle new_seat (omega arith);
     bounded = λ m is. absurd (cc);
     reads = (tt, nothing_noted plan new.row s.words tree_state.fan tree_state.prime tree_state.pages);
+    appends = tt;
     rows = record {
       in_range = (known.rows.in_range.0, let enough = can.enough_rows in let high = known.rows.in_range.1 in omega (arith, enough, high));
       own = λ row low high. ranged_in v.rows.next (v.rows.next + rows) (suc new_seat) old.row row low high;

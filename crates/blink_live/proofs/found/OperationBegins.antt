@@ -71,6 +71,7 @@ module _ (plan : Plan) (s : State ℕ View) (tree_state : TreeState) (h : IsTabl
         operation = put_here tree_state.machines id (goes_on after after.state);
         bounded = bounded;
         reads = (reads, known.reads.1);
+        appends = tt;
         rows = record {
           in_range = (omega (arith, low_row), high_row);
           own = λ r low high. known.rows.own r (omega (arith, low)) high;

@@ -17,20 +17,20 @@ use Rattle.blink_live.specs.declared.view.View.{View}
 use Rattle.blink_live.specs.Changes.{after}
 use Rattle.blink_live.specs.AtomicSteps.{LoadsPage, AnswersAfter, CanGoOn}
 use Rattle.blink_live.specs.Seats.{IsGoing, IsAtLeaf, IsPassSeat, found, wants, IsDescending, going, at_leaf, HasRead}
-use Rattle.blink_live.specs.Views.{IsAnnounced, SeatState, SameBesideReads, reading, known_of}
+use Rattle.blink_live.specs.Views.{IsAnnounced, SeatState, SameBesideReads, reading_page, known_of}
 use Rattle.blink_live.proofs.told.PrefixesOfOneList.{prefix_of_prefix}
 
 pub same_trans : (u v w : View) → SameBesideReads u v → SameBesideReads v w → SameBesideReads u w
-same_trans u v w first second = second ∙ ap (λ (x : View). record x { operation = w.operation; descent_bound = w.descent_bound; reads = w.reads; behind = w.behind; seen = w.seen }) first
+same_trans u v w first second = second ∙ ap (λ (x : View). record x { operation = w.operation; descent_bound = w.descent_bound; reads = w.reads; behind = w.behind; appends = w.appends; seen = w.seen }) first
 
-pub same_reading : (v : View) (then : PlainMachine) (way row : ℕ) (words behind : List ℕ) (seen : List Change) (w : View) → w ≡ reading v then way row words behind seen → SameBesideReads v w
-same_reading v then way row words behind seen w is = subst (SameBesideReads v) (sym is) refl
+pub same_reading : (v : View) (then : PlainMachine) (way word : ℕ) (words behind : List ℕ) (seen : List Change) (w : View) → w ≡ reading_page v then way word words behind seen → SameBesideReads v w
+same_reading v then way word words behind seen w is = subst (SameBesideReads v) (sym is) refl
 
 -- and after each page
 module _ (op : Op) (number word : ℕ) (first me : SeatState) (m then : PlainMachine) (new : SeatState) (has : HasRead op first me m) (is_going : IsGoing m) (loads : LoadsPage m number me word then new) where
   pub read_one_more : then.op ≡ m.op → then.job ≡ m.job → HasRead op first new then
   read_one_more same_op same_job = record {
-    same = (same_trans first.0 me.0 new.0 has.same.0 (same_reading me.0 then loads.way (row_in word) _ loads.behind loads.seen new.0 (ap (λ (x : SeatState). x.0) loads.is)), ap (λ (x : SeatState). x.1) loads.is ∙ has.same.1);
+    same = (same_trans first.0 me.0 new.0 has.same.0 (same_reading me.0 then loads.way word _ loads.behind loads.seen new.0 (ap (λ (x : SeatState). x.0) loads.is)), ap (λ (x : SeatState). x.1) loads.is ∙ has.same.1);
     saw = prefix_of_prefix first.0.seen me.0.seen new.0.seen has.saw (subst (λ (seen : List Change). IsPrefix me.0.seen seen) (sym (ap (λ (x : SeatState). x.0.seen) loads.is)) loads.learns.saw);
     knows_own = loads.knows_own;
     operation = ap (λ (x : SeatState). x.0.operation) loads.is;

@@ -1,17 +1,20 @@
 -- The load of a page word is the tree's read of the page.
-use Rattle.std.proofs.Common.{◌≡◌, ℕ, suc, inl, inr, Option, Some, List, [], refl, sym, ap, ◌∙◌, subst, arith, ◌<◌, ◌≤◌}
+use Rattle.std.proofs.Common.{◌≡◌, ℕ, suc, inl, inr, Option, Some, List, [], refl, sym, ap, ◌∙◌, subst, arith, ◌<◌, ◌≤◌, ◌++◌}
 use Rattle.std.specs.Prelude.{slice_index}
 use mathlib.Core.Option.{none}
 use mathlib.Core.List.{append-nil}
-use Rattle.atomic_table.specs.Table.{step, keeps, Allows}
+use Rattle.atomic_table.specs.Table.{State, step, keeps, Allows}
 use Rattle.blink_batch.specs.declared.Entry.{Entry}
 use Rattle.blink_batch.specs.{FitsWords, answer_at, key_of, pointer_of}
 use Rattle.blink_page.specs.{PlainPage, IsLawfulPage}
 use Rattle.blink_page.specs.declared.limits.TheConstants.{MAX_FAN}
 use Rattle.blink_rows.specs.{page_words}
+use Rattle.blink_machine.specs.declared.machine.Next.TheVariants.{Finish, MoveRight}
+use Rattle.blink_machine.specs.declared.machine.State.{State as MachineState}
+use Rattle.blink_machine.specs.declared.machine.State.TheVariants.{Change as ToChange, Ended, Going, Leave, SplitNew, Want}
 use Rattle.blink_machine.specs.declared.step.Step.TheVariants.{Moved}
 use Rattle.blink_machine.specs.declared.step.Kind.TheVariants as kind
-use Rattle.blink_machine.specs.{PlainMachine, NeedsPage, goes_on, Steps, reads_page, IsItsOperation, under_way, descent_bound, Decides, deciding, other, SeesPage, TellsItsKeys}
+use Rattle.blink_machine.specs.{PlainMachine, NeedsPage, goes_on, Steps, reads_page, IsItsOperation, under_way, descent_bound, Decides, deciding, other, need_at, SeesOnItsWay, SeesPage, SeesUnderLatch, TellsItsKeys}
 use Rattle.blink_machine.specs.TreeState.{TreeState}
 use Rattle.blink_machine.proofs.Offered.{step_law, leaf_tells_its_keys, descent_bound_falls, has_answer_at_end}
 use Rattle.blink_live.specs.declared.view.Plan.{Plan}
@@ -19,9 +22,9 @@ use Rattle.blink_live.specs.declared.view.Role.TheVariants.{Pass}
 use Rattle.blink_live.specs.declared.view.View.{View}
 use Rattle.blink_live.specs.Changes.{after}
 use Rattle.blink_live.specs.AtomicSteps.{loads_page, LoadsPage, AnswersAfter, TellsStates}
-use Rattle.blink_live.specs.Rule.{IsTable, IsTableAt, PageWordIs}
-use Rattle.blink_live.specs.Views.{IsAnnounced, IsCommon, SeatState, reading}
-use Rattle.blink_live.specs.Words.{named_row}
+use Rattle.blink_live.specs.Rule.{IsAppending, IsTable, IsTableAt, PageWordIs}
+use Rattle.blink_live.specs.Views.{IsAnnounced, IsCommon, SeatState, appending_at, reading_page}
+use Rattle.blink_live.specs.Words.{RowBegins, named_row}
 use Rattle.blink_live.proofs.reuse.ReuseStaysSafe.{reads_named}
 use Rattle.blink_live.proofs.table.LoadsKeepTable.{moved, load_keeps}
 use Rattle.blink_live.proofs.table.SharesAreKnown.{share_is_known}
@@ -59,6 +62,48 @@ lawful_within fan page less lawful = record {
   inner = lawful.inner;
 }
 
+-- a read after which the operation is to change a page was one of that page, under its latch
+module _ (m then : PlainMachine) (number : ℕ) (page : PlainPage) (n : ℕ) (changed : PlainPage) (kept : Option ℕ) (changes : then.state ≡ ToChange n changed kept) where
+  state_is : (state : MachineState) (last : PlainMachine) → then ≡ last → last.state ≡ state → state ≡ ToChange n changed kept
+  state_is state last is at = sym at ∙ (ap (λ (x : PlainMachine). x.state) (sym is) ∙ changes)
+
+  not_on_its_way : SeesOnItsWay m number page then → ⊥
+  not_on_its_way (SeesOnItsWay.goes_right level next at leads is) = let e = state_is (Going next level) _ is refl in cc
+  not_on_its_way (SeesOnItsWay.goes_down level child at leads is) = let e = state_is (Going child level) _ is refl in cc
+  not_on_its_way (SeesOnItsWay.find_answers level key at leads find is) = let e = state_is Ended _ is refl in cc
+  not_on_its_way (SeesOnItsWay.update_wants level at leads updates is) = let e = state_is (Want number) _ is refl in cc
+
+  changes_it : SeesUnderLatch m number page then → number ≡ n
+  changes_it (SeesUnderLatch.is_above_high_key next above right is) = absurd (let e = state_is (Leave number (MoveRight next)) _ is refl in cc)
+  changes_it (SeesUnderLatch.insertion_finds_key key pointer found below at op has is) = absurd (let e = state_is (Leave number Finish) _ is refl in cc)
+  changes_it (SeesUnderLatch.deletion_finds_none key below at op has is) = absurd (let e = state_is (Leave number Finish) _ is refl in cc)
+  changes_it (SeesUnderLatch.replacement_finds_none key pointer below at op has is) = absurd (let e = state_is (Leave number Finish) _ is refl in cc)
+  changes_it (SeesUnderLatch.finds_other_pointer key expected below at op has is) = absurd (let e = state_is (Leave number Finish) _ is refl in cc)
+  changes_it (SeesUnderLatch.posting_finds_separator debt child below at has is) = absurd (let e = state_is (Leave number Finish) _ is refl in cc)
+  changes_it (SeesUnderLatch.is_to_change to had below change is) = let e = state_is (ToChange number to had) _ is refl in cc
+  changes_it (SeesUnderLatch.is_to_split below full is) = absurd (let e = state_is (SplitNew number page) _ is refl in cc)
+
+  change_is_here : SeesPage m number page then → number ≡ n
+  change_is_here (SeesPage.on_its_way sees) = absurd (not_on_its_way sees)
+  change_is_here (SeesPage.under_latch held sees) = changes_it sees
+
+-- the seat has added nothing to the row yet
+module _ (plan : Plan) (s : State ℕ View) (tree_state : TreeState) (h : IsTableAt plan s tree_state) (id number : ℕ) (then : PlainMachine) (page : PlainPage) (is_page : PageWordIs plan h.owners s.words (slice_index s.words number) (Some page)) (some_number : 1 ≤ number) (in_range : number < plan.counts.numbers)
+    (here : (n : ℕ) (changed : PlainPage) (kept : Option ℕ) → then.state ≡ ToChange n changed kept → (number ≡ n) × (tree_state.holder n ≡ Some id)) where
+  appends_nothing_yet : (state : MachineState) → then.state ≡ state
+      → IsAppending plan.counts h.owners.fixed tree_state.holder s.words id (Some (named_row s.words number, page_words is_page.base)) is_page.behind (appending_at (slice_index s.words number) state)
+  appends_nothing_yet (ToChange n changed kept) is =
+      let t = here n changed kept is in record {
+        content = page_words is_page.base;
+        in_range = subst (λ (k : ℕ). (1 ≤ k) × (k < plan.counts.numbers)) t.0 (some_number, in_range);
+        latched = t.1;
+        named = ap (slice_index s.words) (sym t.0);
+        row = refl;
+        all_fixed = is_page.fixed;
+        begins = subst (RowBegins plan.counts s.words (named_row s.words number)) (sym (append-nil (page_words is_page.base ++ is_page.behind))) is_page.begins;
+      }
+  appends_nothing_yet state is = tt
+
 pub reads_page_word : (plan : Plan) (slots id number : ℕ) (me : SeatState) (m : PlainMachine) → me.0.role ≡ Pass → me.0.operation ≡ Some m → FitsWords m.op → NeedsPage m number
     → 1 ≤ number → number < plan.counts.numbers → IsAnnounced me.0
     → Allows (IsTable plan) slots id me number (λ k. k) (loads_page (step slots number 0 0 none) me)
@@ -76,7 +121,7 @@ reads_page_word plan slots id number me m role at_m fits needs some_number in_ra
     let row : ℕ = named_row s.words number in
     let is_page : PageWordIs plan h.owners s.words (slice_index s.words number) (Some reads.page) = subst (PageWordIs plan h.owners s.words (slice_index s.words number)) reads.there (h.pages number some_number in_range) in
     let way : ℕ = descent_bound tree_state.pages then in
-    let w : View = reading me.0 then way row (page_words is_page.base) is_page.behind h.log in
+    let w : View = reading_page me.0 then way word (page_words is_page.base) is_page.behind h.log in
     let stepped = read_step tree_state id number m then reads.page needs reads.there sees in
     let new : TreeState = moved tree_state id (goes_on then then.state) in
     let invariant = step_law.step_keeps_invariant tree_state new id m then (Moved (kind.ReadPage number)) h.invariant fits its stepped in
@@ -87,6 +132,10 @@ reads_page_word plan slots id number me m role at_m fits needs some_number in_ra
       load_keeps plan s tree_state h id number me.0 w at role (m, at_m) invariant refl
           (λ some_other is. ap (descent_bound tree_state.pages) (sym (goes_on_as then then.state some_other is)))
           (is_page.published, is_page.begins, (let all = is_page.fixed in omega (arith, all)))
+          (appends_nothing_yet plan s tree_state h id number then reads.page is_page some_number in_range
+          (λ n changed kept is.
+          let its_own = (step_law.invariant_gives_order new invariant).writes_page id n then (under_way (put_here tree_state.machines id (goes_on then then.state) ∙ ap (goes_on then) is)) (ap need_at is) in
+          (change_is_here m then number reads.page n changed kept is sees, its_own.latched)) then.state refl)
           ([], append-nil h.log)
           (h.views id me.0 at).saw
           (λ common. reads_named plan s.words me.0 w number row (page_words is_page.base) refl refl refl refl role (announced (subst IsCommon (sym known.same_plan) common)) in_range refl),

@@ -83,7 +83,7 @@ reads_prime_word plan slots id me m role at_m fits needs some_number announced s
       w,
       keeps,
       tt,
-      load_keeps plan s tree_state h id 0 me.0 w at role (m, at_m) comes.invariant refl (λ some_other is. ap (descent_bound tree_state.pages) (sym (goes_on_as then then.state some_other is))) (let stands = alone plan.counts s.words row (h.owners.fixed row) (prime_words tree_state.prime) h.prime.begins h.prime.fixed in (h.prime.published, stands.0, stands.1)) ([], append-nil h.log) (h.views id me.0 at).saw
+      load_keeps plan s tree_state h id 0 me.0 w at role (m, at_m) comes.invariant refl (λ some_other is. ap (descent_bound tree_state.pages) (sym (goes_on_as then then.state some_other is))) (let stands = alone plan.counts s.words row (h.owners.fixed row) (prime_words tree_state.prime) h.prime.begins h.prime.fixed in (h.prime.published, stands.0, stands.1)) tt ([], append-nil h.log) (h.views id me.0 at).saw
           (λ common. reads_named plan s.words me.0 w 0 row (prime_words tree_state.prime) refl refl refl refl role (announced (subst IsCommon (sym known.same_plan) common)) (omega (arith, some_number)) refl),
       λ same at_same needed. subst (λ (k : PlainMachine). (machine : PlainMachine) × LoadsPrime k me row machine (w, me.1)) (let e : m ≡ same = cc in e) (
         then,

@@ -62,6 +62,7 @@ module _ (plan : Plan) (old : Owners) (words : List ℕ) (tree_state : TreeState
     operation = known.operation;
     bounded = known.bounded;
     reads = seat_reads_still plan old new words log (record { rows = λ row is. is; fixed = refl; named_by = refl }) tree_state v known.reads;
+    appends = known.appends;
     rows = record { in_range = known.rows.in_range; own = known.rows.own };
     numbers = record { in_range = known.numbers.in_range; own = known.numbers.own; free = known.numbers.free };
     for_call = call_still plan old new words tree_state tree_state (suc seat) v.call v.rows.next v.pages.next v.rows.next v.pages.next known.for_call (omega arith, omega arith) (λ r below own. own) (λ n below own. own) (λ n none. none);

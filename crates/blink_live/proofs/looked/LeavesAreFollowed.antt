@@ -131,12 +131,12 @@ module _ (plan : Plan) (s : State ℕ View) (tree_state : TreeState) (h : IsTabl
 
   pub along_keeps : IsTable plan record { words = set s.words number (get_or s.words number 0); homes = s.homes; views = set s.views id (goes v (named_row s.words number) (page_words is_page.base) is_page.behind h.log its_look) }
   along_keeps =
-      let read : View = record v { reads = Some (named, page_words is_page.base); behind = is_page.behind; seen = h.log } in
+      let read : View = record v { reads = Some (named, page_words is_page.base); behind = is_page.behind; appends = None; seen = h.log } in
       load_keeps_with plan s tree_state h id number v along at (still plan s tree_state h id v at role) refl refl refl
       (λ common is. still_saw plan h.owners.place h.log s.views id v along at (h.accounted common) (account plan h.owners.place h.log s.views id v along at (h.accounted common) is) h.log (h.views id v at).saw ([], append-nil h.log) is)
       (λ common. reuse_stays plan h.owners.row s.words s.views id v along at (h.reuse common) h.owners.row s.words (λ r is. is) (λ seat r later is apart. is) (λ n few. refl) refl (hand_stays h.owners.row id v along refl refl) (may_read common))
       (with_look plan h.owners s.words (moved tree_state id v.operation) h.log id read its_look role looked
-      (load_knows_in plan s tree_state h id number v read at (subst (IsInRole plan h.owners h.log id read) (sym role) (kept plan s tree_state h id v at role)) (busy plan s tree_state h id v at role) refl (h.views id v at).bounded (is_page.published, is_page.begins, (let all = is_page.fixed in omega (arith, all))) ([], append-nil h.log)))
+      (load_knows_in plan s tree_state h id number v read at (subst (IsInRole plan h.owners h.log id read) (sym role) (kept plan s tree_state h id v at role)) (busy plan s tree_state h id v at role) refl (h.views id v at).bounded (is_page.published, is_page.begins, (let all = is_page.fixed in omega (arith, all))) tt ([], append-nil h.log)))
 
   pub is_lawful : IsLawfulPage MAX_FAN page
   is_lawful =

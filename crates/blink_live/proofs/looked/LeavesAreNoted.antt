@@ -48,6 +48,7 @@ with_look plan owners words tree_state log id v look role looked known = record 
   operation = known.operation;
   bounded = known.bounded;
   reads = (known.reads.0, looked);
+  appends = known.appends;
   rows = known.rows;
   numbers = known.numbers;
   for_call = known.for_call;
@@ -130,7 +131,7 @@ module _ (plan : Plan) (s : State ℕ View) (tree_state : TreeState) (h : IsTabl
               (λ (has : HasNoted noted.look other). contains_case (number, its_word) v.look.leaves (has.0, has.1) has.2
               (λ is. inr (number, in_range, ap (λ (x : ℕ × ℕ). row_in x.1) is ∙ has.3)) (λ before. inl (content, inr (has.0, has.1, before, has.3), refl, refl))) holds;
         }))
-        (with_look plan h.owners s.words (moved tree_state id v.operation) h.log id v noted.look role looked (load_knows_in plan s tree_state h id number v v at known.in_role busy refl known.bounded known.reads.0 known.saw))
+        (with_look plan h.owners s.words (moved tree_state id v.operation) h.log id v noted.look role looked (load_knows_in plan s tree_state h id number v v at known.in_role busy refl known.bounded known.reads.0 known.appends known.saw))
 
   -- ---- a tree state is marked
 
@@ -156,7 +157,7 @@ module _ (plan : Plan) (s : State ℕ View) (tree_state : TreeState) (h : IsTabl
       (λ common. reuse_stays plan h.owners.row s.words s.views id v marked at (h.reuse common) h.owners.row s.words (λ r is. is) (λ seat r later is apart. is) (λ n few. refl) refl (hand_stays h.owners.row id v marked refl refl)
       (same_reads plan h.owners.row s.words s.views id v marked at (h.reuse common) refl refl refl refl refl))
       (with_look plan h.owners s.words (moved tree_state id v.operation) h.log id seen marked.look role marked_looks
-      (load_knows_in plan s tree_state h id 0 v seen at (subst (IsInRole plan h.owners h.log id seen) (sym role) kept) busy refl known.bounded known.reads.0 ([], append-nil h.log)))
+      (load_knows_in plan s tree_state h id 0 v seen at (subst (IsInRole plan h.owners h.log id seen) (sym role) kept) busy refl known.bounded known.reads.0 known.appends ([], append-nil h.log)))
 
   -- ---- a page word is loaded again
 
@@ -174,7 +175,7 @@ module _ (plan : Plan) (s : State ℕ View) (tree_state : TreeState) (h : IsTabl
     again_keeps = load_keeps_with plan s tree_state h id number v again at still refl refl refl (λ common. (h.accounted common).saw_own id v at)
         (λ common. reuse_stays plan h.owners.row s.words s.views id v again at (h.reuse common) h.owners.row s.words (λ r is. is) (λ seat r later is apart. is) (λ n few. refl) refl (hand_stays h.owners.row id v again refl refl)
         (reads_named plan s.words v again number named (page_words is_page.base) refl refl refl refl role (awake common) in_range refl))
-        (load_knows_in plan s tree_state h id number v again at (subst (IsInRole plan h.owners h.log id again) (sym role) kept) busy refl known.bounded (is_page.published, is_page.begins, (let all = is_page.fixed in omega (arith, all))) known.saw)
+        (load_knows_in plan s tree_state h id number v again at (subst (IsInRole plan h.owners h.log id again) (sym role) kept) busy refl known.bounded (is_page.published, is_page.begins, (let all = is_page.fixed in omega (arith, all))) tt known.saw)
 
     pub is_lawful : Contains v.look.leaves (number, slice_index s.words number) → IsLawfulPage MAX_FAN page
     is_lawful has =

@@ -151,7 +151,7 @@ searched_twice first noted marked last searched is same =
 -- ---- the second load of a leaf's page word
 
 pub row_twice : (first me new : SeatState) → IsSameBesideRow first me → IsSameBesideRow me new → IsSameBesideRow first new
-row_twice first me new one two = two ∙ ap (λ (x : SeatState). let y : SeatState = (record x.0 { reads = new.0.reads; behind = new.0.behind }, x.1) in y) one
+row_twice first me new one two = two ∙ ap (λ (x : SeatState). let y : SeatState = (record x.0 { reads = new.0.reads; behind = new.0.behind; appends = new.0.appends }, x.1) in y) one
 
 pub again_beside_row : (number found : ℕ) (me new : SeatState) → LooksAgain number me found new → IsSameBesideRow me new
 again_beside_row number found me new again = dite (ℕ_discrete found 0)

@@ -173,6 +173,7 @@ module _ (store : PlainStore) (counts : PlainCounts) (places : ℕ) (words : Lis
     operation = refl;
     bounded = λ m is. absurd (cc);
     reads = (tt, nothing_noted (plan_over store counts places) (owners_over store).row words (tree_state_over store).fan (tree_state_over store).prime (tree_state_over store).pages);
+    appends = tt;
     rows = first_rows places;
     numbers = first_numbers places;
     for_call = nothing_for_call (plan_over store counts places) (owners_over store) words (tree_state_over store) 1 (first_span places (length store.pages + 2) (counts.rows + 1)).next (first_span places (length store.pages + 1) counts.numbers).next

@@ -181,19 +181,19 @@ module _ (plan : Plan) (whose : ℕ → ℕ) (words : List ℕ) (views : List Vi
       (may row content is).from
 
   module _ (new : ℕ → ℕ) (then : List ℕ) (published : (row : ℕ) → whose row ≡ 0 → new row ≡ 0) (owned : (seat row : ℕ) → 1 ≤ seat → whose row ≡ suc seat → (seat ≡ id → ¬ IsAtHand v row) → new row ≡ suc seat)
-      (named : (number : ℕ) → number < plan.counts.numbers → slice_index then number ≡ slice_index words number) where
+      (named : (number : ℕ) → number < plan.counts.numbers → named_row then number ≡ named_row words number) where
     out_still : (seat row : ℕ) → IsTakenOut plan whose words safe.claim seat row → IsTakenOut plan new then safe.claim seat row
     out_still seat row is = record {
       in_range = is.in_range;
       unowned = published row is.unowned;
       claimed = is.claimed;
-      not_named = λ number few e. is.not_named number few (sym (ap row_in (named number few)) ∙ e);
+      not_named = λ number few e. is.not_named number few (sym (named number few) ∙ e);
     }
 
     once_still : AreNamedOnce plan.counts then
     once_still one other few_one few_other least same =
-        let first : named_row then one ≡ named_row words one = ap row_in (named one few_one) in
-        safe.named_once one other few_one few_other (omega (arith, least, first)) (sym first ∙ (same ∙ ap row_in (named other few_other)))
+        let first : named_row then one ≡ named_row words one = named one few_one in
+        safe.named_once one other few_one few_other (omega (arith, least, first)) (sym first ∙ (same ∙ named other few_other))
 
     -- the seat has these page numbers beside
     pub reuse_beside : (spare : Span) → w.stock ≡ with_spare spare v.stock → ((row : ℕ) → IsAtHand w row → IsAtHand v row ⊎ (whose row ≢ suc id)) → MayReadOn plan words v w → IsReuseSafe plan new then (set views id w)

@@ -118,6 +118,7 @@ module _ (plan : Plan) (s : State ℕ View) (tree_state : TreeState) (h : IsTabl
     operation = known.operation;
     bounded = known.bounded;
     reads = reads_all v known.reads;
+    appends = known.appends;
     rows = record {
       in_range = (known.rows.in_range.0, let range = in_range.1 in omega (arith, range));
       own = λ r least few. else_same r (λ e. omega (arith, e, few)) ∙ known.rows.own r least (omega (arith, few, last));

@@ -57,6 +57,7 @@ module _ (plan : Plan) (old : Owners) (row : ℕ → ℕ) (words : List ℕ) (tr
     operation = known.operation;
     bounded = known.bounded;
     reads = reads;
+    appends = known.appends;
     rows = record { in_range = known.rows.in_range; own = λ r low high. owns r (known.rows.own r low high) };
     numbers = record { in_range = known.numbers.in_range; own = known.numbers.own; free = known.numbers.free };
     for_call = call_still plan old (with_row old row) words tree_state tree_state (suc seat) v.call v.rows.next v.pages.next v.rows.next v.pages.next known.for_call (omega arith, omega arith) (λ r below. owns r) (λ n below own. own) (λ n free. free);
@@ -144,6 +145,7 @@ module _ (plan : Plan) (s : State ℕ View) (tree_state : TreeState) (h : IsTabl
     operation = known.operation;
     bounded = known.bounded;
     reads = reads_all id v at known.reads;
+    appends = known.appends;
     rows = record { in_range = let range = is_out.in_range in (omega arith, omega (arith, range)); own = λ r low high. absurd (omega (arith, low, high)) };
     numbers = record { in_range = known.numbers.in_range; own = known.numbers.own; free = known.numbers.free };
     for_call = record {
@@ -298,6 +300,7 @@ module _ (plan : Plan) (s : State ℕ View) (tree_state : TreeState) (h : IsTabl
         operation = put_here tree_state.machines id v.operation;
         bounded = was.bounded;
         reads = was.reads;
+        appends = was.appends;
         rows = record { in_range = (has_aside.in_range.0, has_aside.in_range.1); own = λ r low high. has_aside.own r (inl (low, high)) };
         numbers = record { in_range = was.numbers.in_range; own = was.numbers.own; free = was.numbers.free };
         for_call = record {

@@ -70,6 +70,7 @@ module _ (plan : Plan) (s : State ℕ View) (tree_state : TreeState) (h : IsTabl
         operation = put_here tree_state.machines id v.operation;
         bounded = known.bounded;
         reads = known.reads;
+        appends = known.appends;
         rows = known.rows;
         numbers = record { in_range = known.numbers.in_range; own = known.numbers.own; free = known.numbers.free };
         for_call = record {

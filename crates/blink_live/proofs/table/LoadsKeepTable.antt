@@ -14,7 +14,7 @@ use Rattle.blink_live.specs.declared.view.View.{View}
 use Rattle.blink_live.specs.Changes.{put}
 use Rattle.blink_live.specs.Accounts.{HasSeenItsOwn, accounts_of}
 use Rattle.blink_live.specs.Reuse.{IsReuseSafe}
-use Rattle.blink_live.specs.Rule.{ReadsRow, IsInRole, IsBoundedWay, Knows, IsTableAt, IsTable}
+use Rattle.blink_live.specs.Rule.{IsAppending, ReadsRow, IsInRole, IsBoundedWay, Knows, IsTableAt, IsTable}
 use Rattle.blink_live.specs.Views.{IsCommon, SameBesideReads}
 use Rattle.blink_live.proofs.table.MapsWithOneChange.{put_here, put_else}
 use Rattle.blink_live.proofs.reuse.ReuseStaysSafe.{MayReadOn, hand_stays, reuse_stays}
@@ -29,18 +29,19 @@ moved tree_state worker operation = record tree_state { machines = put tree_stat
 
 module _ (plan : Plan) (s : State ℕ View) (tree_state : TreeState) (h : IsTableAt plan s tree_state) (id word : ℕ) (v w : View) (at : get_elem? s.views id ≡ some v) where
   abbrev pub loaded : View
-  loaded = record v { operation = w.operation; descent_bound = w.descent_bound; reads = w.reads; behind = w.behind; seen = w.seen }
+  loaded = record v { operation = w.operation; descent_bound = w.descent_bound; reads = w.reads; behind = w.behind; appends = w.appends; seen = w.seen }
 
   -- the seat knows what it knew, but for its operation, what it reads and what it has seen
-  pub load_knows_in : IsInRole plan h.owners h.log id loaded v.role → (IsCommon plan → v.role ≡ Pass → (m : PlainMachine) → w.operation ≡ Some m → 1 ≤ v.busy) → SameBesideReads v w → IsBoundedWay tree_state w → ReadsRow plan h.owners s.words w.reads w.behind → IsPrefix w.seen h.log
+  pub load_knows_in : IsInRole plan h.owners h.log id loaded v.role → (IsCommon plan → v.role ≡ Pass → (m : PlainMachine) → w.operation ≡ Some m → 1 ≤ v.busy) → SameBesideReads v w → IsBoundedWay tree_state w → ReadsRow plan h.owners s.words w.reads w.behind → IsAppending plan.counts h.owners.fixed tree_state.holder s.words id w.reads w.behind w.appends → IsPrefix w.seen h.log
       → Knows plan h.owners s.words (moved tree_state id w.operation) h.log id w
-  load_knows_in in_role busy same bounded reads saw =
+  load_knows_in in_role busy same bounded reads appends saw =
       let known = h.views id v at in
       let knows : Knows plan h.owners s.words (moved tree_state id w.operation) h.log id loaded = record {
         same_plan = known.same_plan;
         operation = put_here tree_state.machines id w.operation;
         bounded = bounded;
         reads = (reads, known.reads.1);
+        appends = appends;
         rows = record { in_range = known.rows.in_range; own = known.rows.own };
         numbers = record { in_range = known.numbers.in_range; own = known.numbers.own; free = known.numbers.free };
         for_call = call_still plan h.owners h.owners s.words tree_state (moved tree_state id w.operation) (suc id) v.call v.rows.next v.pages.next v.rows.next v.pages.next known.for_call (omega arith, omega arith) (λ r below own. own)
@@ -88,6 +89,7 @@ module _ (plan : Plan) (s : State ℕ View) (tree_state : TreeState) (h : IsTabl
             operation = put_else tree_state.machines id j w.operation other ∙ known.operation;
             bounded = known.bounded;
             reads = known.reads;
+            appends = known.appends;
             rows = known.rows;
             numbers = record { in_range = known.numbers.in_range; own = known.numbers.own; free = known.numbers.free };
             for_call = call_still plan h.owners h.owners s.words tree_state (moved tree_state id w.operation) (suc j) u.call u.rows.next u.pages.next u.rows.next u.pages.next known.for_call (omega arith, omega arith) (λ r below own. own)
@@ -110,16 +112,16 @@ module _ (plan : Plan) (s : State ℕ View) (tree_state : TreeState) (h : IsTabl
   )
 
 module _ (plan : Plan) (s : State ℕ View) (tree_state : TreeState) (h : IsTableAt plan s tree_state) (id word : ℕ) (v w : View) (at : get_elem? s.views id ≡ some v) (role : v.role ≡ Pass) where
-  pub load_knows : ((k : PlainMachine) × (v.operation ≡ Some k)) → SameBesideReads v w → IsBoundedWay tree_state w → ReadsRow plan h.owners s.words w.reads w.behind → IsPrefix w.seen h.log
+  pub load_knows : ((k : PlainMachine) × (v.operation ≡ Some k)) → SameBesideReads v w → IsBoundedWay tree_state w → ReadsRow plan h.owners s.words w.reads w.behind → IsAppending plan.counts h.owners.fixed tree_state.holder s.words id w.reads w.behind w.appends → IsPrefix w.seen h.log
       → Knows plan h.owners s.words (moved tree_state id w.operation) h.log id w
   load_knows under =
       let kept = subst (IsInRole plan h.owners h.log id v) role (h.views id v at).in_role in
       load_knows_in plan s tree_state h id word v w at (subst (IsInRole plan h.owners h.log id (loaded plan s tree_state h id word v w at)) (sym role) kept) (λ common is m goes. ((h.views id v at).placed common is).busy under.0 under.1)
 
-  pub load_keeps : ((k : PlainMachine) × (v.operation ≡ Some k)) → Invariant (moved tree_state id w.operation) → SameBesideReads v w → IsBoundedWay tree_state w → ReadsRow plan h.owners s.words w.reads w.behind → IsPrefix w.seen h.log → IsPrefix v.seen w.seen
+  pub load_keeps : ((k : PlainMachine) × (v.operation ≡ Some k)) → Invariant (moved tree_state id w.operation) → SameBesideReads v w → IsBoundedWay tree_state w → ReadsRow plan h.owners s.words w.reads w.behind → IsAppending plan.counts h.owners.fixed tree_state.holder s.words id w.reads w.behind w.appends → IsPrefix w.seen h.log → IsPrefix v.seen w.seen
       → (IsCommon plan → MayReadOn plan s.words v w)
       → IsTable plan record { words = set s.words word (get_or s.words word 0); homes = s.homes; views = set s.views id w }
-  load_keeps under invariant same bounded reads saw more may = load_keeps_with plan s tree_state h id word v w at invariant (ap (λ (x : View). x.role) same) (ap (λ (x : View). x.plan) same) (ap accounts_of same)
+  load_keeps under invariant same bounded reads appends saw more may = load_keeps_with plan s tree_state h id word v w at invariant (ap (λ (x : View). x.role) same) (ap (λ (x : View). x.plan) same) (ap accounts_of same)
       (λ common is. subst HasSeenItsOwn (sym same) (still_saw plan h.owners.place h.log s.views id v w at (h.accounted common) (account plan h.owners.place h.log s.views id v w at (h.accounted common) role) w.seen more saw role))
       (λ common. reuse_stays plan h.owners.row s.words s.views id v w at (h.reuse common) h.owners.row s.words (λ row is. is) (λ seat r later is apart. is) (λ n few. refl) (ap (λ (x : View). x.stock) same)
-      (hand_stays h.owners.row id v w (ap (λ (x : View). x.rows) same) (ap (λ (x : View). x.call.rows) same)) (may common)) (load_knows under same bounded reads saw)
+      (hand_stays h.owners.row id v w (ap (λ (x : View). x.rows) same) (ap (λ (x : View). x.call.rows) same)) (may common)) (load_knows under same bounded reads appends saw)

@@ -20,7 +20,7 @@ pub looks_stay : (plan : Plan) (whose new : ℕ → ℕ) (words then : List ℕ)
     → ((number word : ℕ) → Contains look.leaves (number, word) → IsRowNumber plan.counts (row_in word) → whose (row_in word) ≡ 0 → new (row_in word) ≡ 0)
     → ((number : ℕ) → IsLeafInChain fan prime pages number → IsLeafInChain later_fan later_prime later_pages number)
     → ((number word : ℕ) → 1 ≤ number → number < plan.counts.numbers → whose (row_in word) ≡ 0 → IsSince word (slice_index words number)
-      → IsSince word (slice_index then number) × (slice_index then number ≡ word → (slice_index words number ≡ word) × (later_pages number ≡ pages number)))
+    → IsSince word (slice_index then number) × (slice_index then number ≡ word → (slice_index words number ≡ word) × (later_pages number ≡ pages number)))
     → HasLooked plan whose words fan prime pages look → HasLooked plan new then later_fan later_prime later_pages look
 looks_stay plan whose new words then fan later_fan prime later_prime pages later_pages look published leaves named looked number word has =
     let was = looked number word has in

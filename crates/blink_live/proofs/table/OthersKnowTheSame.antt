@@ -1,5 +1,5 @@
 -- A step of one seat leaves what the others know.
-use Rattle.std.proofs.Common.{◌≡◌, ◌≢◌, ℕ, suc, ◌+◌, ◌<◌, ◌≤◌, Option, Some, None, List, ◌++◌, inl, inr, sym, ap, ◌∙◌, arith}
+use Rattle.std.proofs.Common.{subst, ◌≡◌, ◌≢◌, ℕ, suc, ◌+◌, ◌<◌, ◌≤◌, Option, Some, None, List, ◌++◌, inl, inr, sym, ap, ◌∙◌, arith}
 use Rattle.std.specs.Prelude.{slice_index}
 use Rattle.std.proofs.lemmas.Bool.{cases_lt}
 use mathlib.Core.Option.{some, some-injective}
@@ -14,6 +14,7 @@ use Rattle.blink_rows.specs.declared.limits.TheConstants.{ROW_WORDS}
 use Rattle.blink_rows.specs.declared.span.Span.{Span}
 use Rattle.blink_machine.specs.{PlainMachine, descent_bound}
 use Rattle.blink_machine.specs.TreeState.{TreeState}
+use Rattle.blink_live.specs.declared.view.Appending.{Appending}
 use Rattle.blink_live.specs.declared.view.Change.{Change}
 use Rattle.blink_live.specs.declared.view.Plan.{Plan}
 use Rattle.blink_live.specs.declared.view.Role.{Role}
@@ -22,7 +23,7 @@ use Rattle.blink_live.specs.declared.view.Share.{Share}
 use Rattle.blink_live.specs.declared.view.View.{View}
 use Rattle.blink_live.specs.Changes.{after, states_of}
 use Rattle.blink_live.specs.Looks.{IsLeafInChain, IsSince}
-use Rattle.blink_live.specs.Rule.{HasNothing, HasPool, Owners, IsPublished, PageWordIs, Reads, ReadsRow, HasRows, HasNumbers, HasForCall, HasSpare, IsShare, IsInRole, Knows, IsTableAt, Names}
+use Rattle.blink_live.specs.Rule.{HasNothing, IsAppending, HasPool, Owners, IsPublished, PageWordIs, Reads, ReadsRow, HasRows, HasNumbers, HasForCall, HasSpare, IsShare, IsInRole, Knows, IsTableAt, Names}
 use Rattle.blink_live.specs.Views.{IsCommon, IsOwned, span}
 use Rattle.blink_live.specs.Words.{named_row, place_word, row_start, RowBegins}
 use Rattle.blink_live.proofs.table.LooksStay.{looks_stay}
@@ -38,6 +39,25 @@ row_begins_still plan old new row content stays is i inside few = stays i inside
 abbrev pub FixedStay : Plan → Owners → List ℕ → List ℕ → ℕ → Type 0
 FixedStay plan owners old new row = (i : ℕ) → i < ROW_WORDS → (owners.row row ≡ 0 → i < owners.fixed row) → slice_index new (row_start plan.counts row + i) ≡ slice_index old (row_start plan.counts row + i)
 
+-- what a seat has added to the row of a page stays so where the page's latch, its word, all words of its row and the fixed ones stay
+pub appends_stay : (plan : Plan) (owners new : Owners) (words then : List ℕ) (holder now : ℕ → Option ℕ) (seat : ℕ) (reads : Option (ℕ × List ℕ)) (behind : List ℕ) (appends : Option Appending)
+    → ((number : ℕ) → holder number ≡ Some seat → 1 ≤ number → number < plan.counts.numbers → IsPublished plan owners (named_row words number)
+    → (now number ≡ Some seat) × (slice_index then number ≡ slice_index words number) × RowStays plan words then (named_row words number) × (new.fixed (named_row words number) ≡ owners.fixed (named_row words number)))
+    → ReadsRow plan owners words reads behind → IsAppending plan.counts owners.fixed holder words seat reads behind appends → IsAppending plan.counts new.fixed now then seat reads behind appends
+appends_stay plan owners new words then holder now seat reads behind None stays is_read is = tt
+appends_stay plan owners new words then holder now seat reads behind (Some a) stays is_read is =
+    let published : IsPublished plan owners (row_in a.word) = (subst (λ (x : Option (ℕ × List ℕ)). ReadsRow plan owners words x behind) is.row is_read).0 in
+    let same : row_in a.word ≡ named_row words a.number = ap row_in (sym is.named) in
+    let t = stays a.number is.latched is.in_range.0 is.in_range.1 (subst (IsPublished plan owners) same published) in record {
+      content = is.content;
+      in_range = is.in_range;
+      latched = t.0;
+      named = t.1 ∙ is.named;
+      row = is.row;
+      all_fixed = ap new.fixed same ∙ (t.3 ∙ (ap owners.fixed (sym same) ∙ is.all_fixed));
+      begins = row_begins_still plan words then (row_in a.word) ((is.content ++ behind) ++ a.words) (subst (RowStays plan words then) (sym same) t.2) is.begins;
+    }
+
 -- a step of the seat `id` after which words, tree state, owners and changes are these touches nothing that another seat has
 pub record LeavesOthers (plan : Plan) (s : State ℕ View) (tree_state then : TreeState) (h : IsTableAt plan s tree_state) (id : ℕ) (words : List ℕ) (new : Owners) (log : List Change) : Type 0 where
   pub machines : (seat : ℕ) → seat ≢ id → then.machines seat ≡ tree_state.machines seat
@@ -48,6 +68,9 @@ pub record LeavesOthers (plan : Plan) (s : State ℕ View) (tree_state then : Tr
   -- a page whose latch another seat holds stays latched, its word names the same row, and all words of this row stay
   pub latched : (seat number : ℕ) → seat ≢ id → tree_state.holder number ≡ Some seat → 1 ≤ number → number < plan.counts.numbers → IsPublished plan h.owners (named_row s.words number)
       → (then.holder number ≡ Some seat) × (slice_index words number ≡ slice_index s.words number) × RowStays plan s.words words (named_row s.words number)
+  -- and the same of them are fixed
+  pub latched_fixed : (seat number : ℕ) → seat ≢ id → tree_state.holder number ≡ Some seat → 1 ≤ number → number < plan.counts.numbers → IsPublished plan h.owners (named_row s.words number)
+      → new.fixed (named_row s.words number) ≡ h.owners.fixed (named_row s.words number)
   pub numbers : (number : ℕ) → h.owners.page number ≢ suc id → (IsCommon plan → h.owners.page number ≢ suc 0) → (new.page number ≡ h.owners.page number) × (tree_state.pages number ≡ None → then.pages number ≡ None)
   pub keys : IsOwned plan → (key : ℕ) → h.owners.key key ≢ suc id
       → (new.key key ≡ h.owners.key key) × (states_of key log ≡ states_of key h.log) × (after (pointer_of plan.opening) log key ≡ after (pointer_of plan.opening) h.log key)
@@ -189,6 +212,10 @@ module _ (plan : Plan) (s : State ℕ View) (tree_state then : TreeState) (h : I
         operation = leaves.machines seat other ∙ known.operation;
         bounded = λ m is. leaves.ways seat m other (known.operation ∙ is) ∙ known.bounded m is;
         reads = seat_reads_still v known.reads;
+        appends = appends_stay plan h.owners new s.words words tree_state.holder then.holder seat v.reads v.behind v.appends
+            (λ n holds least few is.
+            let t = leaves.latched seat n other holds least few is in
+            (t.0, t.1, t.2, leaves.latched_fixed seat n other holds least few is)) known.reads.0 known.appends;
         rows = rows_still seat other v.rows (λ common first. (none common first).0) known.rows;
         numbers = numbers_still seat other v.pages (λ common first. (none common first).1) known.numbers;
         for_call = call_stays seat other v none known.for_call;

@@ -15,7 +15,7 @@ use Rattle.blink_live.specs.declared.view.Share.{Share}
 use Rattle.blink_live.specs.declared.view.View.{View}
 use Rattle.blink_live.specs.Accounts.{AreAccounts}
 use Rattle.blink_live.specs.Reuse.{IsReuseSafe}
-use Rattle.blink_live.specs.Rule.{AreNamedBy, HasPool, Owners, PageWordIs, latch_word, Reads, ReadsRow, IsShare, IsInRole, Knows, AreCounted, IsTableAt}
+use Rattle.blink_live.specs.Rule.{AreNamedBy, HasPool, IsAppending, Owners, PageWordIs, latch_word, Reads, ReadsRow, IsShare, IsInRole, Knows, AreCounted, IsTableAt}
 use Rattle.blink_live.specs.Views.{IsCommon}
 use Rattle.blink_live.proofs.table.CallsOfSeats.{call_still}
 use Rattle.blink_live.proofs.table.LooksStay.{looks_stay}
@@ -68,6 +68,7 @@ module _ (plan : Plan) (old new : Owners) (words : List ℕ) (log : List Change)
     operation = known.operation;
     bounded = known.bounded;
     reads = seat_reads_still tree_state v known.reads;
+    appends = subst (λ (f : ℕ → ℕ). IsAppending plan.counts f tree_state.holder words seat v.reads v.behind v.appends) (sym published.fixed) known.appends;
     rows = record { in_range = known.rows.in_range; own = λ row low high. owns.row row (known.rows.own row low high) };
     numbers = record { in_range = known.numbers.in_range; own = λ number low high. owns.page number (known.numbers.own number low high); free = known.numbers.free };
     for_call = call_still plan old new words tree_state tree_state (suc seat) v.call v.rows.next v.pages.next v.rows.next v.pages.next known.for_call (omega arith, omega arith) (λ r below. owns.row r) (λ n below. owns.page n) (λ n none. none);

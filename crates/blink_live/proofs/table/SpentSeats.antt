@@ -17,6 +17,7 @@ spent_knows plan owners words tree_state log seat told some_number idle heard = 
   operation = idle;
   bounded = λ m is. absurd (cc);
   reads = (tt, nothing_noted plan owners.row words tree_state.fan tree_state.prime tree_state.pages);
+  appends = tt;
   rows = record {
     in_range = (omega arith, omega arith);
     own = λ row low high. absurd (omega (arith, low, high));

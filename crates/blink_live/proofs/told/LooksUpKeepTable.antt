@@ -31,6 +31,7 @@ forgets plan owners words tree_state log id v known = record {
   operation = known.operation;
   bounded = known.bounded;
   reads = known.reads;
+  appends = known.appends;
   rows = known.rows;
   numbers = known.numbers;
   for_call = known.for_call;
@@ -60,7 +61,7 @@ looks plan s tree_state h id v at seen saw more in_role =
     load_keeps_with plan s tree_state h id 0 v (learns_of_others v seen) at still refl refl refl
     (λ common role. still_saw plan h.owners.place h.log s.views id v (learns_of_others v seen) at (h.accounted common) (account plan h.owners.place h.log s.views id v (learns_of_others v seen) at (h.accounted common) role) seen more saw role)
     (λ common. reuse_stays plan h.owners.row s.words s.views id v (learns_of_others v seen) at (h.reuse common) h.owners.row s.words (λ row is. is) (λ seat r later is apart. is) (λ n few. refl) refl (hand_stays h.owners.row id v (learns_of_others v seen) refl refl) (same_reads plan h.owners.row s.words s.views id v (learns_of_others v seen) at (h.reuse common) refl refl refl refl refl))
-    (forgets plan h.owners s.words (moved tree_state id v.operation) h.log id (record v { seen = seen }) (load_knows_in plan s tree_state h id 0 v (record v { seen = seen }) at in_role (λ common role m goes. (known.placed common role).busy m goes) refl known.bounded known.reads.0 saw))
+    (forgets plan h.owners s.words (moved tree_state id v.operation) h.log id (record v { seen = seen }) (load_knows_in plan s tree_state h id 0 v (record v { seen = seen }) at in_role (λ common role m goes. (known.placed common role).busy m goes) refl known.bounded known.reads.0 known.appends saw))
 
 -- a pass's role says nothing of what it has seen
 pass_in_role : (plan : Plan) (owners : Owners) (log : List Change) (id : ℕ) (v : View) (seen : List Change) → v.role ≡ Pass → IsInRole plan owners log id v v.role → IsInRole plan owners log id (record v { seen = seen }) v.role

@@ -87,6 +87,7 @@ module _ (plan : Plan) (some_number : 1 ≤ plan.counts.numbers) (s : State ℕ 
           operation = was.operation;
           bounded = was.bounded;
           reads = was.reads;
+          appends = was.appends;
           rows = was.rows;
           numbers = was.numbers;
           for_call = was.for_call;
