@@ -294,6 +294,13 @@ PublishesPage number out m me then = Publishes (write_page number) me.0.call.pag
 abbrev pub publishes_page : Step ℕ → SeatState → ℕ → SeatState → Type 0
 publishes_page st me found then = (m : PlainMachine) → me.0.operation ≡ Some m → NeedsWrite m st.word → PublishesPage st.word (row_in found) m me then
 
+-- which names its row still, and counts one record more of it
+abbrev pub AppendsRecord : ℕ → PlainMachine → SeatState → SeatState → Type 0
+AppendsRecord number m me then = PublishesFrom (write_page number) me.0.call.rows me.0.call.pages me.0.stock m (done m 0) me then
+
+abbrev pub appends_record : Step ℕ → SeatState → ℕ → SeatState → Type 0
+appends_record st me found then = (m : PlainMachine) → me.0.operation ≡ Some m → NeedsWrite m st.word → AppendsRecord st.word m me then
+
 -- as a new page, with the first page number that the call may use
 abbrev pub PublishesNew : PlainMachine → SeatState → SeatState → Type 0
 PublishesNew m me then = Publishes (write_page me.0.call.pages.next) (span (suc me.0.call.pages.next) me.0.call.pages.stop) me.0.stock m (done m me.0.call.pages.next) me then

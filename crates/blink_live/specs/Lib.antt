@@ -74,3 +74,4 @@ pub mod ToCome
 pub mod Leaves
 pub mod Renumbered
 pub mod GivingBack
+pub mod Additions

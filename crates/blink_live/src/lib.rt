@@ -3,6 +3,7 @@
 #![tactic(auto)]
 
 mod advance;
+mod append;
 mod close;
 mod deal;
 mod descent;

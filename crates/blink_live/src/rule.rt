@@ -186,6 +186,15 @@ impl Play<u8, View> for Publish {
     ghost then = { publishes_page };
 }
 
+/// The store of a page's word, which names the same row and counts one record more.
+pub struct AppendRecord;
+
+impl Play<u8, View> for AppendRecord {
+    ghost use Rattle.blink_live.specs.AtomicSteps.{appends_record};
+
+    ghost then = { appends_record };
+}
+
 /// The store of a new page's word, which names that row from then on.
 pub struct PublishNew;
 

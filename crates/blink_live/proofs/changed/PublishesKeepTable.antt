@@ -5,6 +5,7 @@ use mathlib.Core.Option.{some, none}
 use mathlib.Core.List.{IsPrefix, append-nil}
 use lib.ListN.{get_elem?}
 use Rattle.atomic_table.specs.Table.{State, step, keeps, Allows}
+use Rattle.blink_batch.specs.declared.Entry.{Entry}
 use Rattle.blink_batch.proofs.Offered.{IsAscending-map_after}
 use Rattle.blink_batch.specs.{FitsWords, answer_at, key_of, map_after, pointer_of}
 use Rattle.blink_page.specs.{PlainPage}
@@ -15,6 +16,7 @@ use Rattle.blink_machine.specs.declared.step.Kind.{Kind}
 use Rattle.blink_machine.specs.declared.step.Step.TheVariants.{Moved}
 use Rattle.blink_machine.specs.declared.step.Kind.TheVariants as kinds
 use Rattle.blink_machine.specs.{UsesUp, write_page, write_prime, PlainMachine, NeedsNew, NeedsWrite, NeedsPrimeWrite, goes_on, Steps, writes_page, writes_new, writes_prime, IsItsOperation, IsWorkersNow, under_way, descent_bound, deciding, other, done, page_out, PrimeOut, HasEntries}
+use Rattle.blink_machine.specs.InOrder.{WritesWell}
 use Rattle.blink_machine.specs.TreeState.{TreeState}
 use Rattle.blink_machine.proofs.Offered.{step_law, has_answer_at_end}
 use Rattle.blink_live.specs.declared.view.Change.{Change}
@@ -27,8 +29,8 @@ use Rattle.blink_live.specs.Changes.{put, after, states_of, changes_made, Learns
 use Rattle.blink_live.specs.AtomicSteps.{AnswersInOrder, Decided, CanGoOn, EndsWithOwn, PublishesPage, PublishesNew, PublishesPrime, publishes_page, publishes_new, publishes_prime}
 use Rattle.blink_live.specs.Looks.{IsLeafInChain}
 use Rattle.blink_live.specs.Reuse.{IsAtHand, IsReuseSafe, IsWithin}
-use Rattle.blink_live.specs.Rule.{IsOwnKey, IsShare, HasNumbers, HasSpare, Knows, IsTableAt, IsTable, PageWordIs}
-use Rattle.blink_live.specs.Views.{IsCommon, IsOwned, MayChange, SeatState, KnowsItsOwn, adds, span, changed_by, publishes, takes_out}
+use Rattle.blink_live.specs.Rule.{IsOwnKey, IsBoundedWay, IsShare, Owners, HasNumbers, HasSpare, Knows, IsTableAt, IsTable, PageWordIs}
+use Rattle.blink_live.specs.Views.{IsCommon, IsOwned, MayChange, SeatState, KnowsItsOwn, adds, span, changed_by, publishes, publishes_from, takes_out}
 use Rattle.blink_live.specs.Words.{BeginWith, named_row}
 use Rattle.blink_live.proofs.changed.ChangesAreTheMaps.{all_by_author, states_of-append, none_of_other, other_stays, map_is_changed}
 use Rattle.blink_live.proofs.changed.RowsArePublished.{gives_row, IsStepOfTree, ChangesOwn, publish_keeps}
@@ -47,25 +49,31 @@ IsLongest views seen = (seat : ℕ) (v : View) → get_elem? views seat ≡ some
 
 -- what the table becomes, and what the seat is told: where the step changes something, the seat's list is the longest now, and ends
 -- with this change
-pub record BecomesPublished (plan : Plan) (s : State ℕ View) (id number : ℕ) (kind : Kind) (pages : Span) (stock : Stock) (me : SeatState) (m after_it : PlainMachine) : Type 0 where
+pub record BecomesWritten (plan : Plan) (s : State ℕ View) (id number word : ℕ) (kind : Kind) (rows pages : Span) (stock : Stock) (me : SeatState) (m after_it : PlainMachine) : Type 0 where
   pub way : ℕ
   pub share : Share
   pub seen : List Change
-  pub table : IsTable plan record { words = set s.words number me.0.call.rows.next; homes = s.homes; views = set s.views id (publishes me.0 after_it way pages share seen stock) }
+  pub table : IsTable plan record { words = set s.words number word; homes = s.homes; views = set s.views id (publishes_from me.0 after_it way rows pages share seen stock) }
   pub learns : Learns me.0 seen
   pub decided : Decided m after_it me.0 share seen
   pub next : CanGoOn me.0.plan after_it
   pub uses : UsesUp m (Moved kind) after_it
   pub answers_at_end : after_it.state ≡ Ended → IsSome after_it.answer
-  pub knows_own : KnowsItsOwn (publishes me.0 after_it way pages share seen stock)
+  pub knows_own : KnowsItsOwn (publishes_from me.0 after_it way rows pages share seen stock)
   pub ends_with_own : EndsWithOwn me.0 share seen
-  pub longest : IsLongest (set s.views id (publishes me.0 after_it way pages share seen stock)) seen
+  pub longest : IsLongest (set s.views id (publishes_from me.0 after_it way rows pages share seen stock)) seen
 
-module _ (plan : Plan) (s : State ℕ View) (tree_state then : TreeState) (h : IsTableAt plan s tree_state) (id number : ℕ) (kind : Kind) (pages : Span) (stock : Stock) (me : SeatState) (m after_it : PlainMachine) (content : List ℕ)
-    (at : get_elem? s.views id ≡ some me.0) (role : me.0.role ≡ Pass) (under : (k : PlainMachine) × (me.0.operation ≡ Some k)) (its : IsItsOperation tree_state id m) (fits : FitsWords m.op) (stepped : Steps tree_state id m (Moved kind) after_it then)
-    (tree : IsStepOfTree plan s tree_state then h id number (descent_bound then.pages after_it) me.0 after_it content pages stock at role)
-    (in_range : number < plan.counts.numbers) (room : me.0.call.rows.next < me.0.call.rows.stop) (is_row : BeginWith me.0.call.staged content) (may : MayChange me.0 (key_of m.op))
-    (reuse : (w : View) → w.reads ≡ me.0.reads → w.role ≡ me.0.role → w.busy ≡ me.0.busy → w.place ≡ me.0.place → w.look.leaves ≡ me.0.look.leaves → w.stock ≡ stock → w.rows ≡ me.0.rows → w.call.rows ≡ span (suc me.0.call.rows.next) me.0.call.rows.stop → IsCommon plan → IsReuseSafe plan (gives_row h.owners me.0.call.rows.next number (length content)).row (set s.words number me.0.call.rows.next) (set s.views id w)) where
+-- where the page word names the first of the call's rows
+abbrev pub BecomesPublished : Plan → State ℕ View → ℕ → ℕ → Kind → Span → Stock → SeatState → PlainMachine → PlainMachine → Type 0
+BecomesPublished plan s id number kind pages stock me m after_it = BecomesWritten plan s id number me.0.call.rows.next kind (span (suc me.0.call.rows.next) me.0.call.rows.stop) pages stock me m after_it
+
+-- a page word becomes another, by a step of the tree after which the rule holds where only the seat's own keys change
+module _ (plan : Plan) (s : State ℕ View) (tree_state then : TreeState) (h : IsTableAt plan s tree_state) (id number word : ℕ) (kind : Kind) (rows pages : Span) (stock : Stock) (me : SeatState) (m after_it : PlainMachine) (content : List ℕ)
+    (at : get_elem? s.views id ≡ some me.0) (role : me.0.role ≡ Pass) (its : IsItsOperation tree_state id m) (fits : FitsWords m.op) (stepped : Steps tree_state id m (Moved kind) after_it then)
+    (tree : IsStepOfTree plan s tree_state then h id number (descent_bound then.pages after_it) me.0 after_it content pages stock at role) (may : MayChange me.0 (key_of m.op)) (new : Owners) (same_keys : (key : ℕ) → new.key key ≡ h.owners.key key)
+    (keeps_table : (made : List Change) (now : List Entry) (share : Share) → ChangesOwn plan s tree_state then h id me.0 new made now share
+    → IsBoundedWay then (publishes_from me.0 after_it (descent_bound then.pages after_it) rows pages share (h.log ++ made) stock)
+    → IsTable plan record { words = set s.words number word; homes = s.homes; views = set s.views id (publishes_from me.0 after_it (descent_bound then.pages after_it) rows pages share (h.log ++ made) stock) }) where
   known : Knows plan h.owners s.words tree_state h.log id me.0
   known = h.views id me.0 at
 
@@ -96,7 +104,7 @@ module _ (plan : Plan) (s : State ℕ View) (tree_state then : TreeState) (h : I
     pub keys : share.keys ≡ me.0.share.keys
     pub changes : share.changes ≡ me.0.share.changes ++ its_changes
     pub own : Contains me.0.share.keys (key_of m.op) → (kept_before ≡ pointer_of me.0.share.entries (key_of m.op)) × (share ≡ changed_by me.0.place m.op me.0.share)
-    pub is_share : IsShare plan (gives_row h.owners me.0.call.rows.next number (length content)) (h.log ++ its_changes) (suc id) share
+    pub is_share : IsShare plan new (h.log ++ its_changes) (suc id) share
 
   own_share_then : Contains me.0.share.keys (key_of m.op) → IsShareThen (changed_by me.0.place m.op me.0.share)
   own_share_then mine =
@@ -106,7 +114,7 @@ module _ (plan : Plan) (s : State ℕ View) (tree_state then : TreeState) (h : I
         changes = ap (λ (l : List Change). me.0.share.changes ++ l) made;
         own = λ has. (sym own_key.kept, refl);
         is_share = λ key has. let own = known.share key has in record {
-          own = own.own;
+          own = same_keys key ∙ own.own;
           kept = map_is_changed me.0.place (pointer_of plan.opening) h.log me.0.share.entries m.op kept_before own_key.kept refl key own.kept;
           changes =
               states_of-append key h.log its_changes
@@ -131,7 +139,7 @@ module _ (plan : Plan) (s : State ℕ View) (tree_state then : TreeState) (h : I
 
   -- the changes where the step decides the operation
   decides_here : (share : Share) → IsShareThen share → HasEntries then (map_after h.now m.op)
-      → ChangesOwn plan s tree_state then h id number (descent_bound then.pages after_it) me.0 after_it content pages stock at role under tree in_range room is_row its_changes (map_after h.now m.op) share
+      → ChangesOwn plan s tree_state then h id me.0 new its_changes (map_after h.now m.op) share
   decides_here share is has_entries = record {
     other_changes = λ owned key apart. none_of_other me.0.place m.op kept_before key (its_key owned key apart);
     other_kept = λ owned key apart. other_stays me.0.place (after (pointer_of plan.opening) h.log) m.op kept_before key (its_key owned key apart);
@@ -152,13 +160,13 @@ module _ (plan : Plan) (s : State ℕ View) (tree_state then : TreeState) (h : I
       (answers ∙ ap (λ (k : Option ℕ). Some (answer_at m.op k)) (h.kept (key_of m.op)), ([], append-nil (h.log ++ its_changes)), is.changes, is.own)
 
   -- and where it doesn't
-  decides_nothing : HasEntries then h.now → ChangesOwn plan s tree_state then h id number (descent_bound then.pages after_it) me.0 after_it content pages stock at role under tree in_range room is_row [] h.now me.0.share
+  decides_nothing : HasEntries then h.now → ChangesOwn plan s tree_state then h id me.0 new [] h.now me.0.share
   decides_nothing has_entries = record {
     other_changes = λ owned key apart. refl;
     other_kept = λ owned key apart. refl;
     own_share = λ key mine.
         let own = (h.views id me.0 at).share key mine in record {
-          own = own.own;
+          own = same_keys key ∙ own.own;
           kept = own.kept ∙ ap (λ (l : List Change). after (pointer_of plan.opening) l key) (sym (append-nil h.log));
           changes = ap (states_of key) (append-nil h.log) ∙ own.changes;
         };
@@ -168,16 +176,16 @@ module _ (plan : Plan) (s : State ℕ View) (tree_state then : TreeState) (h : I
   }
 
   -- of its own keys the seat knows what its share says of them
-  own_known : (made : List Change) (share : Share) → IsShare plan (gives_row h.owners me.0.call.rows.next number (length content)) (h.log ++ made) (suc id) share → KnowsItsOwn (publishes me.0 after_it (descent_bound then.pages after_it) pages share (h.log ++ made) stock)
-  own_known made share is = share_is_known plan (gives_row h.owners me.0.call.rows.next number (length content)) (suc id) (publishes me.0 after_it (descent_bound then.pages after_it) pages share (h.log ++ made) stock) (h.views id me.0 at).same_plan is
+  own_known : (made : List Change) (share : Share) → IsShare plan new (h.log ++ made) (suc id) share → KnowsItsOwn (publishes_from me.0 after_it (descent_bound then.pages after_it) rows pages share (h.log ++ made) stock)
+  own_known made share is = share_is_known plan new (suc id) (publishes_from me.0 after_it (descent_bound then.pages after_it) rows pages share (h.log ++ made) stock) (h.views id me.0 at).same_plan is
 
   -- no seat has seen more
-  is_longest : (made : List Change) (share : Share) → IsLongest (set s.views id (publishes me.0 after_it (descent_bound then.pages after_it) pages share (h.log ++ made) stock)) (h.log ++ made)
-  is_longest made share = views_stay (λ seat v. IsPrefix v.seen (h.log ++ made)) s.views id (publishes me.0 after_it (descent_bound then.pages after_it) pages share (h.log ++ made) stock) ([], append-nil (h.log ++ made))
+  is_longest : (made : List Change) (share : Share) → IsLongest (set s.views id (publishes_from me.0 after_it (descent_bound then.pages after_it) rows pages share (h.log ++ made) stock)) (h.log ++ made)
+  is_longest made share = views_stay (λ seat v. IsPrefix v.seen (h.log ++ made)) s.views id (publishes_from me.0 after_it (descent_bound then.pages after_it) rows pages share (h.log ++ made) stock) ([], append-nil (h.log ++ made))
       (λ j u other there. let saw = (h.views j u there).saw in (saw.0 ++ made, sym (append_assoc u.seen saw.0 made) ∙ ap (λ (l : List Change). l ++ made) saw.1))
 
-  pub becomes_published : BecomesPublished plan s id number kind pages stock me m after_it
-  becomes_published =
+  pub becomes_written : BecomesWritten plan s id number word kind rows pages stock me m after_it
+  becomes_written =
       let way : ℕ = descent_bound then.pages after_it in
       let decided_share = share_then in
       let ends : EndsAt plan then = record { no_page = tree.no_other_page; no_latch = λ n beyond. tree.same_holder n ∙ h.no_other_latch n beyond } in
@@ -190,13 +198,12 @@ module _ (plan : Plan) (s : State ℕ View) (tree_state then : TreeState) (h : I
         saw = (known.saw.0 ++ made, sym (append_assoc me.0.seen known.saw.0 made) ∙ ap (λ (l : List Change). l ++ made) known.saw.1);
         heard = (known.heard.0 ++ made, sym (append_assoc me.0.told known.heard.0 made) ∙ ap (λ (l : List Change). l ++ made) known.heard.1);
       } in
-      elim (step_law.step_decides tree_state then id m after_it (Moved kind) h.now h.invariant fits its stepped h.is_map.ascending h.is_map.kept) as (λ d. BecomesPublished plan s id number kind pages stock me m after_it) [
+      elim (step_law.step_decides tree_state then id m after_it (Moved kind) h.now h.invariant fits its stepped h.is_map.ascending h.is_map.kept) as (λ d. BecomesWritten plan s id number word kind rows pages stock me m after_it) [
         | deciding none_yet answers has_entries ↦ record {
           way = way;
           share = decided_share.0;
           seen = h.log ++ its_changes;
-          table = publish_keeps plan s tree_state then h id number way me.0 after_it content pages stock at role under tree in_range room is_row its_changes (map_after h.now m.op) decided_share.0 (decides_here decided_share.0 decided_share.1 has_entries) bounded
-              (reuse (publishes me.0 after_it way pages decided_share.0 (h.log ++ its_changes) stock) refl refl refl refl refl refl refl refl);
+          table = keeps_table its_changes (map_after h.now m.op) decided_share.0 (decides_here decided_share.0 decided_share.1 has_entries) bounded;
           learns = learns its_changes;
           decided = Decided.deciding none_yet (in_order decided_share.0 decided_share.1 answers);
           next = next;
@@ -210,8 +217,7 @@ module _ (plan : Plan) (s : State ℕ View) (tree_state then : TreeState) (h : I
           way = way;
           share = me.0.share;
           seen = h.log ++ [];
-          table = publish_keeps plan s tree_state then h id number way me.0 after_it content pages stock at role under tree in_range room is_row [] h.now me.0.share (decides_nothing has_entries) bounded
-              (reuse (publishes me.0 after_it way pages me.0.share (h.log ++ []) stock) refl refl refl refl refl refl refl refl);
+          table = keeps_table [] h.now me.0.share (decides_nothing has_entries) bounded;
           learns = learns [];
           decided = Decided.other same_answer refl;
           next = next;
@@ -222,6 +228,18 @@ module _ (plan : Plan) (s : State ℕ View) (tree_state then : TreeState) (h : I
           longest = is_longest [] me.0.share;
         }
       ]
+
+-- the page word names the first of the call's rows
+module _ (plan : Plan) (s : State ℕ View) (tree_state then : TreeState) (h : IsTableAt plan s tree_state) (id number : ℕ) (kind : Kind) (pages : Span) (stock : Stock) (me : SeatState) (m after_it : PlainMachine) (content : List ℕ)
+    (at : get_elem? s.views id ≡ some me.0) (role : me.0.role ≡ Pass) (under : (k : PlainMachine) × (me.0.operation ≡ Some k)) (its : IsItsOperation tree_state id m) (fits : FitsWords m.op) (stepped : Steps tree_state id m (Moved kind) after_it then)
+    (tree : IsStepOfTree plan s tree_state then h id number (descent_bound then.pages after_it) me.0 after_it content pages stock at role)
+    (in_range : number < plan.counts.numbers) (room : me.0.call.rows.next < me.0.call.rows.stop) (is_row : BeginWith me.0.call.staged content) (may : MayChange me.0 (key_of m.op))
+    (reuse : (w : View) → w.reads ≡ me.0.reads → w.role ≡ me.0.role → w.busy ≡ me.0.busy → w.place ≡ me.0.place → w.look.leaves ≡ me.0.look.leaves → w.stock ≡ stock → w.rows ≡ me.0.rows → w.call.rows ≡ span (suc me.0.call.rows.next) me.0.call.rows.stop → IsCommon plan → IsReuseSafe plan (gives_row h.owners me.0.call.rows.next number (length content)).row (set s.words number me.0.call.rows.next) (set s.views id w)) where
+  pub becomes_published : BecomesPublished plan s id number kind pages stock me m after_it
+  becomes_published = becomes_written plan s tree_state then h id number me.0.call.rows.next kind (span (suc me.0.call.rows.next) me.0.call.rows.stop) pages stock me m after_it content at role its fits stepped tree may
+      (gives_row h.owners me.0.call.rows.next number (length content)) (λ key. refl)
+      (λ made now share own bounded. publish_keeps plan s tree_state then h id number (descent_bound then.pages after_it) me.0 after_it content pages stock at role under tree in_range room is_row made now share own bounded
+      (reuse (publishes me.0 after_it (descent_bound then.pages after_it) pages share (h.log ++ made) stock) refl refl refl refl refl refl refl refl))
 
 -- ---- a page
 
@@ -276,6 +294,56 @@ rows_after whose seat v w rows call row hand =
     let hand_now : IsWithin v.rows row ⊎ IsWithin (span (suc v.call.rows.next) v.call.rows.stop) row = subst (λ (x : Span × Span). IsWithin x.0 row ⊎ IsWithin x.1 row) (λ i. (rows i, call i)) hand in
     ⊎_elim (λ (t : IsWithin v.rows row). inl (inl t)) (λ (t : (suc v.call.rows.next ≤ row) × (row < v.call.rows.stop)). inl (inr (omega (arith, t), t.1))) hand_now
 
+-- the write of a page whose latch the seat holds
+module _ (plan : Plan) (s : State ℕ View) (table : IsTable plan s) (id number : ℕ) (me : SeatState) (m : PlainMachine) (at : get_elem? s.views id ≡ some me.0) (role : me.0.role ≡ Pass) (at_m : me.0.operation ≡ Some m) (fits : FitsWords m.op)
+    (needs : NeedsWrite m number) (some_number : 1 ≤ number) (in_range : number < plan.counts.numbers) (stock : Stock) (same_spare : stock.spare ≡ me.0.stock.spare) where
+  abbrev page_state : TreeState
+  page_state = table.0
+
+  abbrev pub page_rule : IsTableAt plan s page_state
+  page_rule = table.1
+
+  page_known : Knows plan page_rule.owners s.words page_state page_rule.log id me.0
+  page_known = page_rule.views id me.0 at
+
+  abbrev after_page : PlainMachine
+  after_page = done m 0
+
+  pub page_its : IsItsOperation page_state id m
+  page_its = under_way (page_known.operation ∙ at_m)
+
+  pub page_well : WritesWell page_state id m number
+  page_well = (step_law.invariant_gives_order page_state page_rule.invariant).writes_page id number m page_its needs
+
+  abbrev pub page_then : TreeState
+  page_then = written page_state number (page_out m 0) id (goes_on after_page after_page.state)
+
+  page_workers : IsWorkersNow page_state.machines page_then.machines id after_page
+  page_workers = record { own = put_here page_state.machines id (goes_on after_page after_page.state); others = λ seat ne. put_else page_state.machines id seat (goes_on after_page after_page.state) ne }
+
+  pub page_stepped : Steps page_state id m (Moved (kinds.WritePage number)) after_page page_then
+  page_stepped = writes_page number needs refl refl refl refl
+      (record { written = put_here page_state.pages number (Some (page_out m 0)); others = λ n ne. put_else page_state.pages number n (Some (page_out m 0)) ne })
+      refl
+      page_workers
+
+  page_differs : (n : ℕ) → page_state.pages n ≡ None → n ≢ number
+  page_differs n none_there same = let there : page_state.pages n ≡ Some page_well.before = ap page_state.pages same ∙ page_well.there in cc
+
+  pub page_tree : IsStepOfTree plan s page_state page_then page_rule id number (descent_bound page_then.pages after_page) me.0 after_page (page_words (page_out m 0)) me.0.call.pages stock at role
+  page_tree =
+      let known = page_known in
+      let page : PlainPage = page_out m 0 in
+      let way : ℕ = descent_bound page_then.pages after_page in
+      let invariant = step_law.step_keeps_invariant page_state page_then id m after_page (Moved (kinds.WritePage number)) page_rule.invariant fits page_its page_stepped in
+      let places = step_law.places_stay.stay page_state page_then id m after_page (Moved (kinds.WritePage number)) page_rule.invariant page_its page_stepped in
+      tree_written plan s page_state page_rule id number way me.0 after_page page me.0.call.pages stock at role some_number in_range (inl page_well.latched) invariant places
+      (leaves_stay page_state page_then id m after_page page_rule.invariant invariant page_its page_workers places (λ n unlinked. absurd (none_after_write m number n needs unlinked))) (λ n not_own none_there. page_differs n none_there)
+      (numbers_else plan s page_state page_rule id number way me.0 after_page page me.0.call.pages stock at role some_number in_range me.0.pages (λ n low high. page_differs n (known.numbers.free n low high)) known.numbers)
+      (numbers_else plan s page_state page_rule id number way me.0 after_page page me.0.call.pages stock at role some_number in_range me.0.call.pages (λ n low high. page_differs n (known.for_call.numbers.free n low high)) known.for_call.numbers)
+      known.for_call.before.1 same_spare (spare_beside plan page_rule.owners page_rule.owners page_state page_then (suc id) me.0.stock.spare me.0.pages.next me.0.call.pages known.spare me.0.pages.next me.0.call.pages (omega arith) (λ n within is. is) (λ n within own. own)
+      (λ n within own none. put_else page_state.pages number n (Some page) (page_differs n none) ∙ none))
+
 -- in a page's place
 page_becomes_published : (plan : Plan) (s : State ℕ View) (table : IsTable plan s) (id number : ℕ) (me : SeatState) (m : PlainMachine) → get_elem? s.views id ≡ some me.0 → me.0.role ≡ Pass → me.0.operation ≡ Some m → FitsWords m.op
     → NeedsWrite m number → 1 ≤ number → number < plan.counts.numbers → me.0.call.rows.next < me.0.call.rows.stop → BeginWith me.0.call.staged (page_words (page_out m 0)) → MayChange me.0 (key_of m.op)
@@ -284,28 +352,11 @@ page_becomes_published plan s table id number me m at role at_m fits needs some_
     let tree_state : TreeState = table.0 in
     let h : IsTableAt plan s tree_state = table.1 in
     let known = h.views id me.0 at in
-    let after_it : PlainMachine = done m 0 in
-    let its : IsItsOperation tree_state id m = under_way (known.operation ∙ at_m) in
-    let well = (step_law.invariant_gives_order tree_state h.invariant).writes_page id number m its needs in
-    let page : PlainPage = page_out m 0 in
-    let then : TreeState = written tree_state number page id (goes_on after_it after_it.state) in
-    let workers : IsWorkersNow tree_state.machines then.machines id after_it = record { own = put_here tree_state.machines id (goes_on after_it after_it.state); others = λ seat ne. put_else tree_state.machines id seat (goes_on after_it after_it.state) ne } in
-    let stepped : Steps tree_state id m (Moved (kinds.WritePage number)) after_it then = writes_page number needs refl refl refl refl
-    (record { written = put_here tree_state.pages number (Some page); others = λ n ne. put_else tree_state.pages number n (Some page) ne })
-    refl
-    workers in
-    let invariant = step_law.step_keeps_invariant tree_state then id m after_it (Moved (kinds.WritePage number)) h.invariant fits its stepped in
-    let places = step_law.places_stay.stay tree_state then id m after_it (Moved (kinds.WritePage number)) h.invariant its stepped in
-    let differs : (n : ℕ) → tree_state.pages n ≡ None → n ≢ number = λ n none_there same. let there : tree_state.pages n ≡ Some well.before = ap tree_state.pages same ∙ well.there in cc in
-    let way : ℕ = descent_bound then.pages after_it in
     let out : Stock = takes_out (named_row s.words number) me.0.stock in
-    let tree = tree_written plan s tree_state h id number way me.0 after_it page me.0.call.pages out at role some_number in_range (inl well.latched) invariant places
-    (leaves_stay tree_state then id m after_it h.invariant invariant its workers places (λ n unlinked. absurd (none_after_write m number n needs unlinked))) (λ n not_own none_there. differs n none_there)
-    (numbers_else plan s tree_state h id number way me.0 after_it page me.0.call.pages out at role some_number in_range me.0.pages (λ n low high. differs n (known.numbers.free n low high)) known.numbers)
-    (numbers_else plan s tree_state h id number way me.0 after_it page me.0.call.pages out at role some_number in_range me.0.call.pages (λ n low high. differs n (known.for_call.numbers.free n low high)) known.for_call.numbers)
-    known.for_call.before.1 refl (spare_beside plan h.owners h.owners tree_state then (suc id) me.0.stock.spare me.0.pages.next me.0.call.pages known.spare me.0.pages.next me.0.call.pages (omega arith) (λ n within is. is) (λ n within own. own)
-    (λ n within own none. put_else tree_state.pages number n (Some page) (differs n none) ∙ none)) in
-    becomes_published plan s tree_state then h id number (kinds.WritePage number) me.0.call.pages out me m after_it (page_words page) at role (m, at_m) its fits stepped tree in_range room is_row may
+    let well = page_well plan s table id number me m at role at_m fits needs some_number in_range out refl in
+    becomes_published plan s tree_state (page_then plan s table id number me m at role at_m fits needs some_number in_range out refl) h id number (kinds.WritePage number) me.0.call.pages out me m (done m 0) (page_words (page_out m 0)) at role (m, at_m)
+    (page_its plan s table id number me m at role at_m fits needs some_number in_range out refl) fits (page_stepped plan s table id number me m at role at_m fits needs some_number in_range out refl)
+    (page_tree plan s table id number me m at role at_m fits needs some_number in_range out refl) in_range room is_row may
     (λ w reads its_role busy place look stock rows call common. page_is_safe plan s tree_state h id number me.0.call.rows.next me.0 w at (h.reuse common) in_range (known.for_call.first_own room).1 reads its_role busy place look (inr (omega arith, room)) (rows_after h.owners.row id me.0 w rows call)
     (subst (PageWordIs plan h.owners s.words (slice_index s.words number)) well.there (h.pages number some_number in_range)).published stock)
 

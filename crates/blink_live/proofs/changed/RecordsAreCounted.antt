@@ -1,20 +1,22 @@
 -- A page word that counts more records of the row that it names is stored by the seat that holds the page's latch: the page is what base
 -- and records make now, the row stays the page's, and the rule holds.
-use Rattle.std.proofs.Common.{◌≡◌, ◌≢◌, ℕ, suc, ◌+◌, ◌<◌, ◌≤◌, Option, Some, None, List, [], ◌++◌, set, refl, sym, ap, ◌∙◌, subst, get_or-set_same, get_or-set_other, append_assoc, arith, length}
+use Rattle.std.proofs.Common.{◌≡◌, ◌≢◌, ℕ, suc, ◌+◌, ◌<◌, ◌≤◌, Option, Some, None, List, [], ◌++◌, length-append, set, refl, sym, ap, ◌∙◌, subst, get_or-set_same, get_or-set_other, append_assoc, arith, length}
 use Rattle.std.specs.Prelude.{slice_index}
-use mathlib.Core.Option.{some}
+use mathlib.Core.Option.{some, none}
 use mathlib.Core.List.{append-nil}
 use mathlib.Core.Logic.{dite}
 use native.Mathlib.Decide.{ℕ_discrete}
 use lib.ListN.{get_elem?}
-use Rattle.atomic_table.specs.Table.{State}
+use Rattle.atomic_table.specs.Table.{State, step, keeps, Allows}
 use Rattle.blink_batch.specs.declared.Entry.{Entry}
-use Rattle.blink_batch.specs.{pointer_of}
+use Rattle.blink_batch.specs.{FitsWords, key_of, pointer_of}
 use Rattle.blink_page.specs.{PlainPage}
 use Rattle.blink_rows.specs.{page_words, records_in, row_in}
 use Rattle.blink_rows.specs.declared.span.Span.{Span}
-use Rattle.blink_machine.specs.{PlainMachine, IsMapAt}
+use Rattle.blink_machine.specs.declared.step.Kind.TheVariants as kinds
+use Rattle.blink_machine.specs.{PlainMachine, NeedsWrite, descent_bound, done, page_out, write_page}
 use Rattle.blink_machine.specs.TreeState.{TreeState}
+use Rattle.blink_live.specs.declared.view.Appending.{Appending}
 use Rattle.blink_live.specs.declared.view.Change.{Change}
 use Rattle.blink_live.specs.declared.view.Plan.{Plan}
 use Rattle.blink_live.specs.declared.view.Role.TheVariants.{Keeper, Pass}
@@ -22,13 +24,18 @@ use Rattle.blink_live.specs.declared.view.Share.{Share}
 use Rattle.blink_live.specs.declared.view.View.{View}
 use Rattle.blink_live.specs.Changes.{put, after, states_of}
 use Rattle.blink_live.specs.Accounts.{AreAccounts}
+use Rattle.blink_live.specs.Additions.{CountsAdded}
+use Rattle.blink_live.specs.AtomicSteps.{AppendsRecord, appends_record}
 use Rattle.blink_live.specs.Looks.{IsSince}
 use Rattle.blink_live.specs.Reuse.{IsReuseSafe}
-use Rattle.blink_live.specs.Rule.{AreNamedBy, Owners, IsPublished, PageWordIs, latch_word, HasRows, HasNumbers, IsShare, IsInRole, IsBoundedWay, Knows, IsTableAt, IsTable, NamesPage}
-use Rattle.blink_live.specs.Views.{IsCommon, IsOwned, publishes_from, span}
+use Rattle.blink_live.specs.Rule.{Appends, IsAppending, ReadsRow, AreNamedBy, Owners, IsPublished, PageWordIs, latch_word, HasRows, HasNumbers, IsShare, IsInRole, IsBoundedWay, Knows, IsTableAt, IsTable, NamesPage}
+use Rattle.blink_live.specs.Views.{IsCommon, MayChange, SeatState, publishes_from, span}
 use Rattle.blink_live.specs.Words.{place_word, word_count, RowBegins, named_row, IsVersion}
 use Rattle.blink_live.proofs.changed.ChangesAreTheMaps.{after-append, states_of-append}
-use Rattle.blink_live.proofs.changed.RowsArePublished.{IsStepOfTree, ways_stay}
+use Rattle.blink_live.proofs.changed.PublishesKeepTable.{BecomesWritten, becomes_written, page_its, page_stepped, page_then, page_tree, page_well}
+use Rattle.blink_live.proofs.changed.RowsArePublished.{ChangesOwn, IsStepOfTree, ways_stay}
+use Rattle.blink_live.proofs.changed.WordsAreAdded.{content_is}
+use Rattle.blink_live.proofs.reuse.ReuseStaysSafe.{hand_stays, reuse_stays, same_reads}
 use Rattle.blink_live.proofs.table.PoolStays.{pool_stays}
 use Rattle.blink_live.proofs.table.MapsWithOneChange.{put_here, put_else}
 use Rattle.blink_live.proofs.table.OthersKnowTheSame.{LeavesOthers, RowStays, page_word_still, seat_reads_still}
@@ -99,16 +106,7 @@ module _ (plan : Plan) (s : State ℕ View) (tree_state then : TreeState) (h : I
       omega (arith, now_fixed, was_fixed, grows))
       (λ differ. let still = fixed_else r differ in omega (arith, still))
 
-  -- what the step changes of keys: its own alone
-  pub record CountsOwn : Type 0 where
-    pub other_changes : IsOwned plan → (key : ℕ) → h.owners.key key ≢ suc id → states_of key made ≡ []
-    pub other_kept : IsOwned plan → (key : ℕ) → h.owners.key key ≢ suc id → after (after (pointer_of plan.opening) h.log) made key ≡ after (pointer_of plan.opening) h.log key
-    pub own_share : IsShare plan new log (suc id) share
-    pub is_map : IsMapAt then now
-    pub kept_now : (key : ℕ) → pointer_of now key ≡ after (pointer_of plan.opening) log key
-    pub its_account : (share.changes ≡ v.share.changes ++ made) × AreBy v.place made
-
-  module _ (own : CountsOwn) (bounded : IsBoundedWay then w) (reuse : IsCommon plan → IsReuseSafe plan new.row words (set s.views id w)) where
+  module _ (own : ChangesOwn plan s tree_state then h id v new made now share) (bounded : IsBoundedWay then w) (reuse : IsCommon plan → IsReuseSafe plan new.row words (set s.views id w)) where
     leaves : LeavesOthers plan s tree_state then h id words new log
     leaves = record {
       machines = step.others;
@@ -148,10 +146,10 @@ module _ (plan : Plan) (s : State ℕ View) (tree_state then : TreeState) (h : I
           omega (arith, counted, same_count, more) in (
             subst (IsSince noted) (sym here) (λ names. let less = fewer names in omega (arith, less)),
             λ is. absurd (
-            let same_word : word ≡ noted = sym here ∙ is in
-            let less = fewer (ap row_in same_word) in
-            let same_count : (records_in word).count ≡ (records_in noted).count = ap (λ (k : ℕ). (records_in k).count) same_word in
-            omega (arith, less, same_count)),
+                let same_word : word ≡ noted = sym here ∙ is in
+                let less = fewer (ap row_in same_word) in
+                let same_count : (records_in word).count ≡ (records_in noted).count = ap (λ (k : ℕ). (records_in k).count) same_word in
+                omega (arith, less, same_count)),
           ))
           (λ differ. (subst (IsSince noted) (sym (word_else n differ)) since, λ is. (sym (word_else n differ) ∙ is, step.other_pages n least differ)));
     }
@@ -241,3 +239,88 @@ module _ (plan : Plan) (s : State ℕ View) (tree_state then : TreeState) (h : I
 
     pub count_keeps : IsTable plan record { words = words; homes = s.homes; views = set s.views id w }
     count_keeps = store_keeps plan s tree_state then h id number word kept.0 v w at new log now leaves stored refl refl accounted reuse knows
+
+-- ---- the page word counts what the seat has added
+
+module _ (plan : Plan) (s : State ℕ View) (table : IsTable plan s) (id number word : ℕ) (me : SeatState) (m : PlainMachine) (at : get_elem? s.views id ≡ some me.0) (role : me.0.role ≡ Pass) (at_m : me.0.operation ≡ Some m) (fits : FitsWords m.op)
+    (needs : NeedsWrite m number) (may : MayChange me.0 (key_of m.op)) (adds : CountsAdded number word me (page_out m 0)) where
+  abbrev now_state : TreeState
+  now_state = table.0
+
+  abbrev rule : IsTableAt plan s now_state
+  rule = table.1
+
+  abbrev a : Appending
+  a = adds.a
+
+  now_known : Knows plan rule.owners s.words now_state rule.log id me.0
+  now_known = rule.views id me.0 at
+
+  has_added : Appends plan.counts rule.owners.fixed now_state.holder s.words id me.0.reads me.0.behind a
+  has_added = subst (IsAppending plan.counts rule.owners.fixed now_state.holder s.words id me.0.reads me.0.behind) adds.appends now_known.appends
+
+  of_number : (1 ≤ number) × (number < plan.counts.numbers) × (slice_index s.words number ≡ a.word)
+  of_number = subst (λ (k : ℕ). (1 ≤ k) × (k < plan.counts.numbers) × (slice_index s.words k ≡ a.word)) adds.same_number (has_added.in_range.0, has_added.in_range.1, has_added.named)
+
+  its_row : row_in a.word ≡ named_row s.words number
+  its_row = ap row_in (sym of_number.2)
+
+  row_is_published : IsPublished plan rule.owners (named_row s.words number)
+  row_is_published = subst (IsPublished plan rule.owners) its_row (subst (λ (r : Option (ℕ × List ℕ)). ReadsRow plan rule.owners s.words r me.0.behind) has_added.row now_known.reads.0).0
+
+  same_content : has_added.content ≡ page_words adds.base
+  same_content = content_is (row_in a.word) has_added.content (page_words adds.base) (sym has_added.row ∙ adds.reads)
+
+  begins_so : RowBegins plan.counts s.words (named_row s.words number) (page_words adds.base ++ (me.0.behind ++ a.words))
+  begins_so = subst (λ (ws : List ℕ). RowBegins plan.counts s.words (named_row s.words number) ws) (append_assoc (page_words adds.base) me.0.behind a.words)
+      (subst (λ (t : ℕ × List ℕ). RowBegins plan.counts s.words t.0 ((t.1 ++ me.0.behind) ++ a.words)) (λ i. (its_row i, same_content i)) has_added.begins)
+
+  no_fewer_fixed : rule.owners.fixed (named_row s.words number) ≤ length (page_words adds.base ++ (me.0.behind ++ a.words))
+  no_fewer_fixed =
+      let all : rule.owners.fixed (named_row s.words number) ≡ length (page_words adds.base ++ me.0.behind) = ap rule.owners.fixed (sym its_row) ∙ (has_added.all_fixed ∙ ap (λ (ws : List ℕ). length (ws ++ me.0.behind)) same_content) in
+      let apart : length ((page_words adds.base ++ me.0.behind) ++ a.words) ≡ length (page_words adds.base ++ me.0.behind) + length a.words = length-append (page_words adds.base ++ me.0.behind) a.words in
+      let together : length ((page_words adds.base ++ me.0.behind) ++ a.words) ≡ length (page_words adds.base ++ (me.0.behind ++ a.words)) = ap (λ (ws : List ℕ). length ws) (append_assoc (page_words adds.base) me.0.behind a.words) in
+      omega (arith, all, apart, together)
+
+  counts_more : (records_in (slice_index s.words number)).count < (records_in word).count
+  counts_more = subst (λ (k : ℕ). (records_in k).count < (records_in word).count) (sym of_number.2) adds.more
+
+  named_then : (n : ℕ) → n < plan.counts.numbers → named_row (set s.words number word) n ≡ named_row s.words n
+  named_then n few = dite (ℕ_discrete n number)
+      (λ same.
+      let wide = rule.width in
+      let here : slice_index (set s.words number word) number ≡ word = let in_range = of_number.1 in get_or-set_same s.words number word 0 (omega (arith, wide, in_range)) in
+      ap row_in (ap (slice_index (set s.words number word)) same ∙ here) ∙ (adds.same_row ∙ (its_row ∙ ap (named_row s.words) (sym same))))
+      (λ differ. ap row_in (get_or-set_other s.words number n word 0 differ))
+
+  abbrev state_then : TreeState
+  state_then = page_then plan s table id number me m at role at_m fits needs of_number.0 of_number.1 me.0.stock refl
+
+  its_tree : IsStepOfTree plan s now_state state_then rule id number (descent_bound state_then.pages (done m 0)) me.0 (done m 0) (page_words (page_out m 0)) me.0.call.pages me.0.stock at role
+  its_tree = page_tree plan s table id number me m at role at_m fits needs of_number.0 of_number.1 me.0.stock refl
+
+  pub becomes_counted : BecomesWritten plan s id number word (write_page number) me.0.call.rows me.0.call.pages me.0.stock me m (done m 0)
+  becomes_counted = becomes_written plan s now_state state_then rule id number word (kinds.WritePage number) me.0.call.rows me.0.call.pages me.0.stock me m (done m 0) (page_words (page_out m 0)) at role
+      (page_its plan s table id number me m at role at_m fits needs of_number.0 of_number.1 me.0.stock refl) fits (page_stepped plan s table id number me m at role at_m fits needs of_number.0 of_number.1 me.0.stock refl) its_tree may
+      (record rule.owners { fixed = put rule.owners.fixed (named_row s.words number) (length (page_words adds.base ++ (me.0.behind ++ a.words))) }) (λ key. refl)
+      (λ made entries share own bounded.
+      let w : View = publishes_from me.0 (done m 0) (descent_bound state_then.pages (done m 0)) me.0.call.rows me.0.call.pages share (rule.log ++ made) me.0.stock in
+      count_keeps plan s now_state state_then rule id number word (descent_bound state_then.pages (done m 0)) me.0 (done m 0) (page_out m 0) adds.base (me.0.behind ++ a.words) at role (m, at_m) its_tree (put_here now_state.pages number (Some (page_out m 0))) of_number.0 of_number.1
+      (page_well plan s table id number me m at role at_m fits needs of_number.0 of_number.1 me.0.stock refl).latched (adds.same_row ∙ its_row) counts_more adds.version row_is_published no_fewer_fixed begins_so made entries share own bounded
+      (λ common. reuse_stays plan rule.owners.row s.words s.views id me.0 w at (rule.reuse common) rule.owners.row (set s.words number word) (λ r is. is) (λ seat r later is apart. is) named_then refl (hand_stays rule.owners.row id me.0 w refl refl)
+      (same_reads plan rule.owners.row s.words s.views id me.0 w at (rule.reuse common) refl refl refl refl refl)))
+
+pub record_is_counted : (plan : Plan) (slots id number word : ℕ) (me : SeatState) (m : PlainMachine) → me.0.role ≡ Pass → me.0.operation ≡ Some m → FitsWords m.op → NeedsWrite m number → MayChange me.0 (key_of m.op) → CountsAdded number word me (page_out m 0)
+    → Allows (IsTable plan) slots id me number (λ n. word) (λ n. appends_record (step slots number word 0 none) me n)
+record_is_counted plan slots id number word me m role at_m fits needs may adds s table homes at small =
+    let to = becomes_counted plan s table id number word me m at role at_m fits needs may adds in
+    let then : SeatState = (publishes_from me.0 (done m 0) to.way me.0.call.rows me.0.call.pages to.share to.seen me.0.stock, me.1) in (
+      then.0,
+      keeps,
+      tt,
+      to.table,
+      λ k at_k needs_k.
+          let same : m ≡ k = cc in
+          subst (λ (j : PlainMachine). AppendsRecord number j me then) same
+          record { way = to.way; share = to.share; seen = to.seen; is = refl; learns = to.learns; decided = to.decided; next = to.next; uses = to.uses; answers_at_end = to.answers_at_end; knows_own = to.knows_own; ends_with_own = to.ends_with_own },
+    )

@@ -56,6 +56,15 @@ ways_stay tree_state new seat m invariant stay under = go m.state refl
 abbrev pub gives_row : Owners → ℕ → ℕ → ℕ → Owners
 gives_row owners row number many = record owners { row = put owners.row row 0; fixed = put owners.fixed row many; named_by = put owners.named_by row number }
 
+-- what a write of this seat changes of keys: its own alone
+pub record ChangesOwn (plan : Plan) (s : State ℕ View) (tree_state then : TreeState) (h : IsTableAt plan s tree_state) (id : ℕ) (v : View) (new : Owners) (made : List Change) (now : List Entry) (share : Share) : Type 0 where
+  pub other_changes : IsOwned plan → (key : ℕ) → h.owners.key key ≢ suc id → states_of key made ≡ []
+  pub other_kept : IsOwned plan → (key : ℕ) → h.owners.key key ≢ suc id → after (after (pointer_of plan.opening) h.log) made key ≡ after (pointer_of plan.opening) h.log key
+  pub own_share : IsShare plan new (h.log ++ made) (suc id) share
+  pub is_map : IsMapAt then now
+  pub kept_now : (key : ℕ) → pointer_of now key ≡ after (pointer_of plan.opening) (h.log ++ made) key
+  pub its_account : (share.changes ≡ v.share.changes ++ made) × AreBy v.place made
+
 module _ (plan : Plan) (s : State ℕ View) (tree_state then : TreeState) (h : IsTableAt plan s tree_state) (id number way : ℕ) (v : View) (after_it : PlainMachine) (content : List ℕ) (pages : Span) (stock : Stock) (at : get_elem? s.views id ≡ some v) (role : v.role ≡ Pass) where
   -- the tree's step: what the row holds is the page of this number now, or for number 0 the prime block, and else all is as it was
   pub record IsStepOfTree : Type 0 where
@@ -116,16 +125,7 @@ module _ (plan : Plan) (s : State ℕ View) (tree_state then : TreeState) (h : I
     row_inside : v.call.rows.next ≤ plan.counts.rows
     row_inside = let last = known.for_call.others.in_range.1 in omega (arith, last, room)
 
-    -- what the write changes of keys: its own alone
-    pub record ChangesOwn : Type 0 where
-      pub other_changes : IsOwned plan → (key : ℕ) → h.owners.key key ≢ suc id → states_of key made ≡ []
-      pub other_kept : IsOwned plan → (key : ℕ) → h.owners.key key ≢ suc id → after (after (pointer_of plan.opening) h.log) made key ≡ after (pointer_of plan.opening) h.log key
-      pub own_share : IsShare plan new log (suc id) share
-      pub is_map : IsMapAt then now
-      pub kept_now : (key : ℕ) → pointer_of now key ≡ after (pointer_of plan.opening) log key
-      pub its_account : (share.changes ≡ v.share.changes ++ made) × AreBy v.place made
-
-    module _ (own : ChangesOwn) (bounded : IsBoundedWay then w) (reuse : IsCommon plan → IsReuseSafe plan new.row words (set s.views id w)) where
+    module _ (own : ChangesOwn plan s tree_state then h id v new made now share) (bounded : IsBoundedWay then w) (reuse : IsCommon plan → IsReuseSafe plan new.row words (set s.views id w)) where
       -- a published row is another
       not_its_row : (row : ℕ) → h.owners.row row ≡ 0 → row ≢ v.call.rows.next
       not_its_row row unowned same = let one : 0 ≡ suc id = sym unowned ∙ (ap h.owners.row same ∙ (known.for_call.first_own room).1) in omega (arith, one)
