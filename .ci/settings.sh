@@ -1,6 +1,6 @@
 #!/bin/sh
 # Looks whether the built `blink` runs a script by the workers, the driver and the cut that its words name. Its answers are the same by all
-# of them, so what it asks for is counted: a thread for each worker of each batch; a table's memory, 25 KB for each insertion, by the driver
+# of them, so what it asks for is counted: a thread for each worker of each batch; a table's memory, 26 KB for each insertion, by the driver
 # `live` alone; and there the lists of the workers' keys, which are others by another cut. It says nothing where all is well. Without a C
 # compiler nothing is tried, and it says so.
 set -eu

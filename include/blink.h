@@ -504,8 +504,9 @@ void blink_pass_free(blink_pass pass);
  */
 
 /* Opens a map over the index, which stays as it is, with places for 1 to 256 sessions. While it opens, it takes twice the memory that the
- * map has then. A split of a page takes one of `pages` page numbers, and every write of a page one of `rows` rows. An insertion writes one
- * page mostly, and has to have 22 numbers and 44 rows when it begins; a deletion, a replacement or an exchange has to have one row.
+ * map has then. A split of a page takes one of `pages` page numbers, and every write of a whole page one of `rows` rows. Most changes are
+ * appended to the row of their page, and take none. An insertion has to have 22 numbers and 44 rows when it begins; a deletion, a replacement
+ * or an exchange has to have one row.
  * Sessions draw both from the map's pool, at most 512 numbers and 1,024 rows at once; what one draws no other gets, before its place is
  * taken again. One that has fewer than 22 numbers draws others, and keeps those that it had, which it uses first. So no number is lost:
  * when all is full, each session has at most 21 left, and the pool as many. Splits by one session take 19,979 of 20,000 numbers, 979 of

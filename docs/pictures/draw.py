@@ -614,7 +614,7 @@ def row():
         picture.box(x, 30, 52, 26, fill=fill, stroke=LINE)
         picture.text(x + 26, 48, f"row {number}", size=11, bold=number == 3)
         x += 52
-    picture.text(740, 74, "rows of 70 words", size=10.5, fill=SOFT, anchor="end")
+    picture.text(740, 74, "rows of 72 words", size=10.5, fill=SOFT, anchor="end")
     middle = 20 + 58 * 2 + 54
     target = rows_at + 2 * 52 + 26
     picture.line([(middle, 30), (middle, 10), (target, 10), (target, 29)], stroke=BLUE, arrow=True)
@@ -627,11 +627,11 @@ def row():
         picture.box(20 + at * wide, 130, wide, 34, fill=HEAD if at < 6 else "white", stroke=LINE)
         picture.text(20 + at * wide + wide / 2, 152, value, bold=True)
         picture.text(20 + at * wide + wide / 2, 180, name, size=9, fill=SOFT)
-        number = "69" if at == 12 else "" if at == 11 else str(at)
+        number = "71" if at == 12 else "" if at == 11 else str(at)
         picture.text(20 + at * wide + wide / 2, 124, number, size=9.5, fill=SOFT)
     picture.box(20, 130, 720, 34, fill="none", stroke=BLUE, width=1.6)
     picture.text(380, 206, "row 3 is the present version of page #2: the keys 4 and 5. The head is words 0 to 5;", size=11, fill=SOFT)
-    picture.text(380, 222, "then come 32 places of two words each. Words that are 0 aren't stored.", size=11, fill=SOFT)
+    picture.text(380, 222, "then come 33 places of two words each, for entries and records. Words that are 0 aren't stored.", size=11, fill=SOFT)
     picture.save("row.svg")
 
 
@@ -728,7 +728,7 @@ def fronts():
 
 def row_life():
     picture = Picture(820, 196)
-    states = [("staged", "words are stored,", "where they differ"), ("named", "one page word", "has its number"), ("retired", "no page word names it;", "somebody may read it"),
+    states = [("staged", "words are stored,", "where they differ"), ("named", "one page word names it;", "changes are appended"), ("retired", "no page word names it;", "somebody may read it"),
               ("waiting", "each place is", "looked at twice"), ("free", "nobody reads it", "")]
     steps = ["its number is stored in the page word", "a change swaps it out", "the wait begins", "each session is past"]
     wide, gap, left, top = 134, 30, 20, 58

@@ -500,8 +500,8 @@ static void changes_a_map(void) {
     CHECK(is(changes(&one, BLINK_FIND, 3, NONE), BLINK_FOUND, 30) && is(changes(&one, BLINK_FIND, 6, NONE), BLINK_ABSENT, 0));
     CHECK(has(&one, (blink_reserve){0, 0, 0, 0, 0}));
     CHECK(is(changes(&one, BLINK_INSERT, 6, 60), BLINK_INSERTED, 0) && is(changes(&one, BLINK_INSERT, 6, 61), BLINK_EXISTS, 60));
-    // of two sessions it has drawn a quarter of the pool, 75 numbers and 150 rows, and has replaced one row by another
-    CHECK(has(&one, (blink_reserve){75, 149, 0, 1, 0}));
+    // of two sessions it has drawn a quarter of the pool, 75 numbers and 150 rows, and its insertion was appended to the leaf's row
+    CHECK(has(&one, (blink_reserve){75, 150, 0, 0, 0}));
     CHECK(is(changes(&one, BLINK_REPLACE, 6, 62), BLINK_REPLACED, 60) && is(changes(&one, BLINK_REPLACE, 7, 70), BLINK_ABSENT, 0));
     CHECK(is(changes(&one, BLINK_DELETE, 2, NONE), BLINK_REMOVED, 20) && is(changes(&one, BLINK_DELETE, 2, NONE), BLINK_ABSENT, 0));
     CHECK(is(puts_so(&one, 7, 71), BLINK_INSERTED, 0) && is(puts_so(&one, 7, 72), BLINK_REPLACED, 71));

@@ -1,7 +1,6 @@
 pub mod LatchesKeepTable
 pub mod StagingKeepsTable
 pub mod RowsAreStaged
-pub mod RowsAreSpliced
 pub mod EditsOfLeaves
 pub mod ChangesAreTheMaps
 pub mod RowsArePublished
@@ -25,3 +24,4 @@ pub mod PoolIsDrawn
 pub mod OperationsRest
 pub mod WordsAreAdded
 pub mod RecordsAreCounted
+pub mod RecordsAreAppended

@@ -17,26 +17,17 @@ pub(crate) struct Descent {
     ghost few: { length above.items + 1 < LEVELS },
 }
 
-/// The place of the operation's key in a leaf.
+/// What an operation knows of the leaf that it has latched, where its key belongs.
 #[derive(Clone, Copy)]
 pub(crate) struct Spot {
-    /// The leaf's row.
-    pub row: u64,
+    /// The leaf's page word.
+    pub word: u64,
+    /// The number of entries in the base at the begin of the leaf's row.
+    pub base: usize,
     /// The number of the leaf's entries.
     pub count: usize,
-    /// The number of entries before the first whose key is at least the operation's.
-    pub place: usize,
     /// The pointer that the leaf has for the key.
     pub kept: Option<u64>,
-}
-
-/// A change of a leaf's entries at one place.
-#[derive(Clone, Copy)]
-pub(crate) struct Splice {
-    /// The number of entries that go from there: 0 or 1.
-    pub gone: usize,
-    /// The entry that comes there.
-    pub entry: Option<(u64, u64)>,
 }
 
 /// What an operation makes of a leaf that it has latched.
@@ -45,7 +36,7 @@ pub(crate) enum Edit {
     Right(u32),
     /// The leaf stays as it is: it has this pointer for the key, or none.
     Answers(Option<u64>),
-    /// The leaf, whose page word this is, is full or has records: the operation has to see all of it.
+    /// The leaf, whose page word this is, is full: the operation has to see all of it.
     Whole(u64),
     /// One key of the leaf changes, as the record says.
     Write(Spot, Record),

@@ -24,7 +24,6 @@ mod scan;
 mod scan_back;
 mod shelf;
 mod snapshot;
-mod splice;
 mod stock;
 mod straight;
 mod tell;

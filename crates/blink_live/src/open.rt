@@ -24,7 +24,7 @@ impl Live {
     ///
     /// The call refuses with `TooLarge`, before it asks for memory, exactly if the insertions might need more page numbers than
     /// the 1,048,576 that exist, at 22 each. So a table takes at most 47,662 insertions, over an index of one page. It refuses with
-    /// `OutOfMemory`, if memory was refused. Each insertion allowed takes 25 KB of the table, and each deletion 560 bytes.
+    /// `OutOfMemory`, if memory was refused. Each insertion allowed takes 26 KB of the table, and each deletion 576 bytes.
     pub fn open(
         alloc: Global,
         index: &Index,

@@ -100,11 +100,31 @@ impl Live {
             → ReadsWay at.machine key number result.2 seat.old.me result.0 result.1 seat.new.me }
     {
         let word = self.table.shared.load::<LoadPage>(seat, number as usize);
-        if let Some(said) = self.newest(seat, word, key) {
-            return (Way::Here, said, word);
-        }
-        let (way, kept) = self.way_from(seat, row_in(word), level, key, hint);
+        let (way, kept) = self.way_in(seat, word, level, key, hint);
         (way, kept, word)
+    }
+
+    // Where the key leads from the version of a page of this level that the seat reads. If the page is the key's leaf, also the
+    // pointer stored for the key.
+    pub(crate) fn way_in(
+        &self,
+        seat: &mut Seat<u8, View>,
+        word: u64,
+        level: u8,
+        key: u64,
+        hint: usize,
+    ) -> (Way, Option<u64>)
+        requires seat { IsPassSeat self.now seat.old.table_id seat.old.me }
+        requires row { IsRowNumber self.now.counts (row_in word) }
+        requires page { (page : PlainPage) × ReadsVersion seat.old.me word page × (page.level ≡ level) }
+        ensures same { IsSameSeat seat.old seat.new }
+        ensures way { (page : PlainPage) → ReadsVersion seat.old.me word page → page.level ≡ level
+            → TellsWayFor key page result.0 result.1 }
+    {
+        if let Some(said) = self.newest(seat, word, key) {
+            return (Way::Here, said);
+        }
+        self.way_from(seat, row_in(word), level, key, hint)
     }
 
     // The pointer that the key has by the newest record of it, in the version that the seat reads; `Some(None)` if that record removed

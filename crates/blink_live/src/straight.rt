@@ -1,43 +1,41 @@
 //! The straight path of an operation that changes the tree. It goes down to its leaf, latches it, and changes it, as an operation
 //! with a machine does, and takes the same steps. But no value of its machine is made: the machine is in the seat's view, for the
-//! proofs. Only where the leaf is full or has records, or the operation has to wait, a machine is made, and the operation goes on with
-//! that.
+//! proofs. Only where the leaf is full, or the operation has to wait, a machine is made, and the operation goes on with that.
 ghost use Rattle.std.specs.Prelude.{◌≡◌, ◌≢◌, ◌↔◌, ℕ, ◌+◌, ◌<◌, ◌≤◌, None, Some, IfErr, IfOk, IfSome, IfNone, IsTrue, length};
 ghost use Rattle.atomic_table.specs.declared.Seat.{Seat};
 ghost use Rattle.blink_batch.specs.{FitsWords, answer_at, key_of};
 ghost use Rattle.blink_batch.specs.declared.Op.{Op};
 ghost use Rattle.blink_batch.specs.declared.Op.TheVariants.{Insert};
-ghost use Rattle.blink_page.specs.{IsFan, IsLawfulPage, PlainPage, least_above, place_of};
-ghost use Rattle.blink_page.specs.declared.limits.TheConstants.{MAX_FAN};
-ghost use Rattle.blink_rows.specs.declared.limits.TheConstants.{ROW_WORDS};
+ghost use Rattle.blink_page.specs.{IsFan, PlainPage};
+ghost use Rattle.blink_rows.specs.{row_in};
 ghost use Rattle.blink_machine.specs.declared.machine.Job.TheVariants.{Leaf};
 ghost use Rattle.blink_machine.specs.declared.machine.Next.TheVariants.{Finish, MoveRight};
 ghost use Rattle.blink_machine.specs.declared.machine.State.{State};
 ghost use Rattle.blink_machine.specs.declared.machine.State.TheVariants.{Ended, Held, Leave};
-ghost use Rattle.blink_machine.specs.{IsReadable, IsUpdate, PlainMachine, SeesUnderLatch};
+ghost use Rattle.blink_machine.specs.{IsUpdate, NeedsWrite, PlainMachine, page_out};
 ghost use Rattle.blink_live.specs.declared.descent.Changed.{Changed};
 ghost use Rattle.blink_live.specs.declared.descent.Edit.TheVariants.{Write};
 ghost use Rattle.blink_live.specs.declared.view.View.{View};
+ghost use Rattle.blink_live.specs.AtomicSteps.{PublishesPage};
 ghost use Rattle.blink_live.specs.Pendings.{IsWaiting};
-ghost use Rattle.blink_live.specs.Seats.{HasRead, HasSameNumber, IsAtLeaf, IsPassSeat, IsSameSeat, ReadsPage};
+ghost use Rattle.blink_live.specs.Seats.{HasRead, HasSameNumber, IsAtLeaf, IsPassSeat, IsSameSeat, ReadsVersion};
 ghost use Rattle.blink_live.specs.Shelves.{IsShelved};
-ghost use Rattle.blink_live.specs.Straight.{HasCome, HasMet, HasTurned, IsEditOf, IsSpot, IsToWrite, NeedsWhole, exchange_of, holding, leaving, page_at, removal_of, splice_of, wanting};
-ghost use Rattle.blink_live.specs.Updating.{HasRowsFor, IsUnderWay, room_in};
+ghost use Rattle.blink_live.specs.Straight.{HasCome, HasMet, HasTurned, IsEditOf, IsToChange, NeedsWhole, exchange_of, holding, leaving, page_at, removal_of, wanting};
+ghost use Rattle.blink_live.specs.Updating.{CanWrite, HasRowsFor, IsUnderWay, room_in};
 ghost use Rattle.blink_live.specs.Views.{CanBegin, MayChange, for_call, known_of};
-ghost use Rattle.blink_live.specs.Words.{AreNumbersIn, AreRowsIn, IsRowNumber, row_start, word_count};
+ghost use Rattle.blink_live.specs.Words.{AreNumbersIn, AreRowsIn, IsRowNumber};
 
-use crate::descent::{Changed, Descent, Edit, Splice, Spot, Turned};
+use crate::descent::{Changed, Descent, Edit, Spot, Turned};
 use crate::live::Live;
-use crate::read::{kept_under, link_of};
 use crate::room::Room;
 use crate::view::View;
 use arrayvec::ArrayVec;
 use atomic_table::Seat;
 use blink_batch::{Answer, Op};
 use blink_machine::Machine;
-use blink_page::Way;
-use blink_rows::layout::{COUNT, ENTRY_WORDS, HIGH_KEY, RIGHT_LINK};
-use blink_rows::{HEAD_WORDS, Kind, ROW_WORDS, Record, records_in, row_in};
+use blink_page::{Page, Way};
+use blink_rows::layout::{COUNT, ENTRY_WORDS};
+use blink_rows::{HEAD_WORDS, Kind, Record, page_row, records_in, row_in};
 use std::hint;
 
 impl Live {
@@ -165,8 +163,7 @@ impl Live {
             }
             Edit::Whole(word) => Turned::Whole(word),
             Edit::Write(spot, change) => {
-                let splice = splice_of(&change);
-                self.put_leaf(seat, room, op, descent, &spot, &splice);
+                self.write_record(seat, room, op, descent, &spot, &change);
                 self.free_latch(seat, descent.leaf);
                 Turned::Ended(op.answer(spot.kept))
             }
@@ -196,76 +193,64 @@ impl Live {
             → HasMet self.now op descent.now first seat.new _room.now result }
     {
         let word = self.load_latched(seat, descent.leaf);
-        if records_in(word).count > 0 {
-            return Edit::Whole(word);
-        }
-        match self.spot_in(seat, row_in(word), op.key()) {
-            Ok(spot) => edit_of(op, self.fan, spot),
-            Err(right) => Edit::Right(right),
+        match self.way_in(seat, word, 0, op.key(), 0) {
+            (Way::Right(next), _) => Edit::Right(next),
+            (Way::Here, kept) => edit_of(op, self.fan, self.spot_in(seat, word, kept)),
+            (Way::Down(_), _) => unreachable!(),
         }
     }
 
-    // The place of the key in the page whose row the seat reads; or the page to the right, if the key is above the high key.
-    fn spot_in(&self, seat: &mut Seat<u8, View>, row: u64, key: u64) -> Result<Spot, u32>
+    // What the operation knows of the leaf that the seat reads and this page word names, where the leaf has this pointer for the key.
+    fn spot_in(&self, seat: &mut Seat<u8, View>, word: u64, kept: Option<u64>) -> Spot
         requires seat { IsPassSeat self.now seat.old.table_id seat.old.me }
-        requires row { IsRowNumber self.now.counts row }
-        requires page { (page : PlainPage) × ReadsPage seat.old.me row page }
+        requires row { IsRowNumber self.now.counts (row_in word) }
+        requires page { (page : PlainPage) × ReadsVersion seat.old.me word page }
         ensures same { IsSameSeat seat.old seat.new }
-        ensures right { IfErr result (λ right. (page : PlainPage) → ReadsPage seat.old.me row page
-            → (page.high < key) × (page.right ≡ Some right)) }
-        ensures row { IfOk result (λ spot. spot.row ≡ row) }
-        ensures spot { IfOk result (λ spot. (page : PlainPage) → ReadsPage seat.old.me row page
-            → IsSpot key page spot) }
+        ensures word { result.word ≡ word }
+        ensures kept { result.kept ≡ kept }
+        ensures base { (page : PlainPage) → (is : ReadsVersion seat.old.me word page)
+            → result.base ≡ length is.base.entries }
+        ensures count { (page : PlainPage) → ReadsVersion seat.old.me word page
+            → result.count ≡ length page.entries }
     {
-        let start = self.row_place(row);
-        let count = self.load_word(seat, start, COUNT) as usize;
-        let place = self.place_in(seat, start, count, key);
-        if place < count {
-            let at = HEAD_WORDS + ENTRY_WORDS * place;
-            let found = self.load_word(seat, start, at);
-            let value = self.load_word(seat, start, at + 1);
-            return Ok(Spot {
-                row,
-                count,
-                place,
-                kept: kept_under(key, found, value),
-            });
+        let start = self.row_place(row_in(word));
+        let base = self.load_word(seat, start, COUNT) as usize;
+        Spot {
+            word,
+            base,
+            count: records_in(word).live(base),
+            kept,
         }
-        if key > self.load_word(seat, start, HIGH_KEY) {
-            let right = self.load_word(seat, start, RIGHT_LINK);
-            return Err(right as u32);
-        }
-        Ok(Spot {
-            row,
-            count,
-            place,
-            kept: None,
-        })
     }
 
-    // The number of entries before the first whose key is at least `key`, in the page whose row the seat reads.
-    fn place_in(&self, seat: &mut Seat<u8, View>, start: usize, count: usize, key: u64) -> usize
-        requires seat { IsPassSeat self.now seat.old.table_id seat.old.me }
-        requires inside { start + ROW_WORDS ≤ word_count self.now.counts }
-        requires page { (row : ℕ) × (page : PlainPage) × (start ≡ row_start self.now.counts row)
-            × ReadsPage seat.old.me row page × (count ≡ length page.entries) }
-        ensures same { IsSameSeat seat.old seat.new }
-        ensures place { (row : ℕ) (page : PlainPage) → start ≡ row_start self.now.counts row
-            → ReadsPage seat.old.me row page
-            → count ≡ length page.entries
-            → result ≡ place_of key page.entries }
+    // Changes the leaf as the record says: appends the record to the leaf's row, or writes the next version into another row where
+    // this one has no room for a record more.
+    fn write_record(
+        &self,
+        seat: &mut Seat<u8, View>,
+        room: &mut Room,
+        op: Op,
+        descent: &Descent,
+        spot: &Spot,
+        change: &Record,
+    )
+        requires changes { (first : Seat ℕ View)
+            × IsToChange self.now op descent.now first seat.old room.old spot.now change.now }
+        ensures { (first : Seat ℕ View)
+            → IsToChange self.now op descent.now first seat.old room.old spot.now change.now
+            → IsUnderWay self.now op first seat.new (leaving self.now.fan op descent.now spot.now.kept)
+            room.new }
     {
-        for place in 0..count {
-            let found = self.load_word(seat, start, HEAD_WORDS + ENTRY_WORDS * place);
-            if key <= found {
-                return place;
-            }
+        if records_in(spot.word).has_room(spot.base) {
+            self.append_leaf(seat, room, op, descent, spot, change);
+            return;
         }
-        count
+        self.put_leaf(seat, room, op, descent, spot, change);
     }
 
-    // Writes the next version of the leaf, and puts the row of the version before on the shelf. The version stands in a free row of
-    // the shelf, or else in the first row of the room.
+    // Writes the next version of the leaf without records, and puts the row of the version before on the shelf. The version stands in
+    // a free row of the shelf, or else in the first row of the room.
+    #[inline(never)]
     fn put_leaf(
         &self,
         seat: &mut Seat<u8, View>,
@@ -273,27 +258,45 @@ impl Live {
         op: Op,
         descent: &Descent,
         spot: &Spot,
-        splice: &Splice,
+        change: &Record,
     )
-        requires writes { (first : Seat ℕ View)
-            × IsToWrite self.now op descent.now first seat.old room.old spot.now splice.now }
+        requires changes { (first : Seat ℕ View)
+            × IsToChange self.now op descent.now first seat.old room.old spot.now change.now }
         ensures { (first : Seat ℕ View)
-            → IsToWrite self.now op descent.now first seat.old room.old spot.now splice.now
+            → IsToChange self.now op descent.now first seat.old room.old spot.now change.now
             → IsUnderWay self.now op first seat.new (leaving self.now.fan op descent.now spot.now.kept)
             room.new }
     {
         // Read for the proof: the room's numbers are words.
         let _stop = room.rows.stop;
         let _key = op.key();
+        let mut page = self.page_in_row(seat, spot.word);
+        change.apply(&mut page);
         if let Some(row) = self.lend(seat, room) {
-            let out = self.write_leaf(seat, descent.leaf, row, spot, splice);
+            let out = self.write_leaf(seat, descent.leaf, row, &page);
             self.put_rows_back(seat);
             Self::keep_out(seat, room, out);
             return;
         }
-        let out = self.write_leaf(seat, descent.leaf, room.rows.next, spot, splice);
+        let out = self.write_leaf(seat, descent.leaf, room.rows.next, &page);
         room.rows.next += 1;
         Self::keep_out(seat, room, out);
+    }
+
+    // Writes the version of the page of this number into the row, the first of the call's, and names it in the page word. Returns the
+    // row of the version before.
+    fn write_leaf(&self, seat: &mut Seat<u8, View>, number: u32, row: u64, page: &Page) -> u64
+        requires can { (m : PlainMachine) × CanWrite self.now m row seat.old
+            × NeedsWrite m number × (page.now ≡ page_out m 0) }
+        requires in_range { (1 ≤ number) × (number < self.now.counts.numbers) }
+        ensures same { HasSameNumber seat.old seat.new }
+        ensures published { (m : PlainMachine) → seat.old.me.0.operation ≡ Some m → NeedsWrite m number
+            → PublishesPage number result m seat.old.me seat.new.me }
+    {
+        let words = page_row(page);
+        let count = HEAD_WORDS + ENTRY_WORDS * page.items.len();
+        self.stage_row(seat, row, &words[..count]);
+        self.name_row(seat, number, row)
     }
 
     // Reads the whole leaf whose latch the operation holds, and goes on as an operation with a machine does.
@@ -444,7 +447,7 @@ fn insertion_of(fan: u8, spot: Spot, key: u64, pointer: u64) -> Edit
         return Edit::Answers(spot.kept);
     }
     if spot.count >= usize::from(fan) {
-        return Edit::Whole(spot.row);
+        return Edit::Whole(spot.word);
     }
     Edit::Write(
         spot,
@@ -482,25 +485,4 @@ fn exchange(spot: Spot, key: u64, pointer: u64) -> Edit
             pointer,
         },
     )
-}
-
-// How a row that is written anew differs by the change from the row before.
-fn splice_of(change: &Record) -> Splice
-    ensures { result ≡ splice_of change.now }
-{
-    let entry = (change.key, change.pointer);
-    match change.kind {
-        Kind::Replaced => Splice {
-            gone: 1,
-            entry: Some(entry),
-        },
-        Kind::Added => Splice {
-            gone: 0,
-            entry: Some(entry),
-        },
-        Kind::Removed => Splice {
-            gone: 1,
-            entry: None,
-        },
-    }
 }

@@ -387,7 +387,7 @@ impl Live {
 
     // Makes the first words of an unpublished row these, in ascending order. It loads each word, and stores those that differ,
     // since the row may have been another page's before. What stands behind them stays.
-    fn stage_row(&self, seat: &mut Seat<u8, View>, row: u64, words: &[u64])
+    pub(crate) fn stage_row(&self, seat: &mut Seat<u8, View>, row: u64, words: &[u64])
         requires seat { IsPassSeat self.now seat.old.table_id seat.old.me }
         requires row { IsFirst row seat.old.me.0.call.rows × IsRowNumber self.now.counts row }
         requires blank { seat.old.me.0.call.staged ≡ no_words }

@@ -1,4 +1,5 @@
 //! The words of tables, and what a keeper and a pass have, worked by hand.
+use crate::indexes::Look::Finds;
 use crate::indexes::filled;
 use crate::same::same;
 use crate::sights::{OfKeeper, OfPass, OfTable};
@@ -11,7 +12,7 @@ use blink_live::PassError;
 // ---- tables that open over a new index, whose only page is an empty leaf
 
 // The words that aren't 0: the prime block is in row 1 and names page 1, and page 1 is in row 2, with the greatest high key.
-const AT_OPENING: [(usize, u64); 5] = [(0, 1), (1, 2), (53, 1), (54, 1), (121, u64::MAX)];
+const AT_OPENING: [(usize, u64); 5] = [(0, 1), (1, 2), (53, 1), (54, 1), (123, u64::MAX)];
 
 const OPENED: Story = Story {
     over: (0, 0),
@@ -23,8 +24,8 @@ const OPENED: Story = Story {
         Keeper(OfKeeper::Rows(3, 47)),
         Keeper(OfKeeper::Taken(&[])),
         Keeper(OfKeeper::Dealt(0, 0)),
-        Table(OfTable::WordCount(3_268)),
-        Table(OfTable::Words(3_268, &AT_OPENING)),
+        Table(OfTable::WordCount(3_360)),
+        Table(OfTable::Words(3_360, &AT_OPENING)),
     ],
     end: End::StaysOpen,
 };
@@ -100,7 +101,7 @@ const SPLIT: Story = Story {
     acts: &[
         Deal(&[5], 1, 0),
         Take(0, &[Call(Op::Insert(5, 50), Ok(Answer::Inserted))]),
-        Table(OfTable::WordCount(3_268)),
+        Table(OfTable::WordCount(3_360)),
         Table(OfTable::Words(48, &AFTER_SPLIT)),
     ],
     end: End::StaysOpen,
@@ -111,60 +112,53 @@ fn a_split_is_written_right_page_first(rt: HostRuntime) {
     play(&rt, rt.alloc(), &SPLIT);
 }
 
-// ---- the rows that deletions write and use
+// ---- the words that deletions write, and the rows that they use
 
-// The words of the table of the keys 1 to 4 once key 1 is deleted: page 1 was in row 2, from word 74 on, and is in row 3, from
-// word 144 on. Nobody has its latch, which is word 3.
-const WITHOUT_KEY_1: [(usize, u64); 22] = [
+// The words of the table of the keys 1 to 4 once key 1 is deleted: page 1 stays in row 2, from word 76 on, and behind its four entries
+// stands a record of key 1. Its page word counts one record of kind 2. Nobody has its latch, which is word 3.
+const WITHOUT_KEY_1: [(usize, u64); 15] = [
     (0, 1),
-    (1, 3),
+    (1, 283_467_841_538),
     (9, 1),
     (10, 1),
-    (77, u64::MAX),
-    (79, 4),
-    (80, 1),
-    (81, 10),
-    (82, 2),
-    (83, 20),
-    (84, 3),
-    (85, 30),
-    (86, 4),
-    (87, 40),
-    (147, u64::MAX),
-    (149, 3),
-    (150, 2),
-    (151, 20),
-    (152, 3),
-    (153, 30),
-    (154, 4),
-    (155, 40),
+    (79, u64::MAX),
+    (81, 4),
+    (82, 1),
+    (83, 10),
+    (84, 2),
+    (85, 20),
+    (86, 3),
+    (87, 30),
+    (88, 4),
+    (89, 40),
+    (90, 1),
 ];
 
-// After each deletion the pass's next row. The second accepted one uses its row, which stays 0.
+// After each deletion the pass's next row. Each accepted one uses its row up, and the rows stay 0.
 const DELETIONS: Story = Story {
     over: (0, 4),
     room: (0, 2),
     acts: &[
         Deal(&[1, 2], 0, 2),
         Table(OfTable::Counts(2, 4)),
-        Table(OfTable::WordCount(284)),
+        Table(OfTable::WordCount(292)),
         Take(0, &[Call(Op::Delete(3), Err(PassError::NotYours))]),
         Pass(0, OfPass::Rows(3, 5)),
         Take(0, &[Call(Op::Delete(1), Ok(Answer::Removed(10)))]),
         Pass(0, OfPass::Rows(4, 5)),
-        Table(OfTable::Words(284, &WITHOUT_KEY_1)),
+        Table(OfTable::Words(292, &WITHOUT_KEY_1)),
         Take(0, &[Call(Op::Delete(1), Ok(Answer::Absent))]),
         Pass(0, OfPass::Rows(5, 5)),
-        Table(OfTable::Words(284, &WITHOUT_KEY_1)),
+        Table(OfTable::Words(292, &WITHOUT_KEY_1)),
         Take(0, &[Call(Op::Delete(2), Err(PassError::Spent))]),
         Pass(0, OfPass::Rows(5, 5)),
-        Table(OfTable::Words(284, &WITHOUT_KEY_1)),
+        Table(OfTable::Words(292, &WITHOUT_KEY_1)),
         Take(0, &[Call(Op::Delete(3), Err(PassError::NotYours))]),
         Pass(0, OfPass::Rows(5, 5)),
-        Table(OfTable::Words(284, &WITHOUT_KEY_1)),
+        Table(OfTable::Words(292, &WITHOUT_KEY_1)),
         Take(0, &[Call(Op::Find(2), Ok(Answer::Found(20)))]),
         Pass(0, OfPass::Rows(5, 5)),
-        Table(OfTable::Words(284, &WITHOUT_KEY_1)),
+        Table(OfTable::Words(292, &WITHOUT_KEY_1)),
     ],
     end: End::StaysOpen,
 };
@@ -174,10 +168,10 @@ fn each_accepted_deletion_uses_a_row(rt: HostRuntime) {
     play(&rt, rt.alloc(), &DELETIONS);
 }
 
-// ---- the rows that replacements write and use
+// ---- the words that replacements write, and the rows that they use
 
-// After each replacement the row of page 1 and the pass's next row. The page is written anew though the pointer stays, and the row
-// of the second accepted one stays 0.
+// After each replacement the word of page 1 and the pass's next row. A record is appended though the pointer stays. Each accepted one
+// uses its row up, and the rows stay 0.
 const REPLACEMENTS: Story = Story {
     over: (4, 5),
     room: (0, 3),
@@ -187,19 +181,19 @@ const REPLACEMENTS: Story = Story {
         Table(OfTable::Word(1, 2)),
         Pass(0, OfPass::Rows(3, 6)),
         Take(0, &[Call(Op::Replace(5, 50), Ok(Answer::Replaced(50)))]),
-        Table(OfTable::Word(1, 3)),
+        Table(OfTable::Word(1, 8_589_934_594)),
         Pass(0, OfPass::Rows(4, 6)),
         Take(0, &[Call(Op::Replace(6, 60), Ok(Answer::Absent))]),
-        Table(OfTable::Word(1, 3)),
+        Table(OfTable::Word(1, 8_589_934_594)),
         Pass(0, OfPass::Rows(5, 6)),
         Take(0, &[Call(Op::Replace(5, 51), Ok(Answer::Replaced(50)))]),
-        Table(OfTable::Word(1, 5)),
+        Table(OfTable::Word(1, 17_179_869_186)),
         Pass(0, OfPass::Rows(6, 6)),
         Take(0, &[Call(Op::Replace(5, 52), Err(PassError::Spent))]),
-        Table(OfTable::Word(1, 5)),
+        Table(OfTable::Word(1, 17_179_869_186)),
         Pass(0, OfPass::Rows(6, 6)),
         Take(0, &[Call(Op::Replace(7, 70), Err(PassError::NotYours))]),
-        Table(OfTable::Word(1, 5)),
+        Table(OfTable::Word(1, 17_179_869_186)),
         Pass(0, OfPass::Rows(6, 6)),
     ],
     end: End::StaysOpen,
@@ -208,4 +202,42 @@ const REPLACEMENTS: Story = Story {
 #[test]
 fn each_accepted_replacement_uses_a_row(rt: HostRuntime) {
     play(&rt, rt.alloc(), &REPLACEMENTS);
+}
+
+// Behind the one entry of page 1 in row 2 there is room for twelve records. The next change writes the page without records, in the row of
+// its own call, the 13th from row 3 on, and the one after that is appended there.
+const FULL_LOG: Story = Story {
+    over: (4, 5),
+    room: (0, 14),
+    acts: &[
+        Deal(&[5], 0, 14),
+        Take(
+            0,
+            &[
+                Call(Op::Replace(5, 51), Ok(Answer::Replaced(50))),
+                Call(Op::Replace(5, 52), Ok(Answer::Replaced(51))),
+                Call(Op::Replace(5, 53), Ok(Answer::Replaced(52))),
+                Call(Op::Replace(5, 54), Ok(Answer::Replaced(53))),
+                Call(Op::Replace(5, 55), Ok(Answer::Replaced(54))),
+                Call(Op::Replace(5, 56), Ok(Answer::Replaced(55))),
+                Call(Op::Replace(5, 57), Ok(Answer::Replaced(56))),
+                Call(Op::Replace(5, 58), Ok(Answer::Replaced(57))),
+                Call(Op::Replace(5, 59), Ok(Answer::Replaced(58))),
+                Call(Op::Replace(5, 60), Ok(Answer::Replaced(59))),
+                Call(Op::Replace(5, 61), Ok(Answer::Replaced(60))),
+                Call(Op::Replace(5, 62), Ok(Answer::Replaced(61))),
+            ],
+        ),
+        Table(OfTable::Word(1, 103_079_215_106)),
+        Take(0, &[Call(Op::Replace(5, 63), Ok(Answer::Replaced(62)))]),
+        Table(OfTable::Word(1, 15)),
+        Take(0, &[Call(Op::Delete(5), Ok(Answer::Removed(63)))]),
+        Table(OfTable::Word(1, 283_467_841_551)),
+    ],
+    end: End::Closes(&[Finds(&[(5, None)])]),
+};
+
+#[test]
+fn a_row_without_room_for_a_record_gives_way_to_another(rt: HostRuntime) {
+    play(&rt, rt.alloc(), &FULL_LOG);
 }

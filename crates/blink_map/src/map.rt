@@ -21,11 +21,12 @@ pub struct Room {
 
 /// A map from `u64` to `u64`, which any number of threads read and change without a global lock, each by sessions of its own.
 ///
-/// A change takes the row of a page's version before out of the tree. The row comes back to its session once no session can still
-/// read it, and is written again. So a map with two rows for each page number, and a few hundred for each session, takes changes as
-/// long as its page numbers last. Half of the rows are the sessions' in equal parts, of 44 rows at least and 4,096 at most, so that
-/// a session which comes late finds its own. While another session is held up in the midst of a call, no row comes back, and one that
-/// has too few left waits, or is refused where its call waits for nobody.
+/// Most changes are appended to the row of their page. One that finds no room there writes another row, and takes the row before out
+/// of the tree. That comes back to its session once no session can still read it, and is written again. So a map with two rows for
+/// each page number, and a few hundred for each session, takes changes as long as its page numbers last. Half of the rows are the
+/// sessions' in equal parts, of 44 rows at least and 4,096 at most, so that a session which comes late finds its own. While another
+/// session is held up in the midst of a call, no row comes back, and one that has too few left waits, or is refused where its call
+/// waits for nobody.
 #[derive(Drop)]
 pub struct Map {
     pub(crate) live: Live,

@@ -39,8 +39,8 @@ fn a_map_with_few_rows_takes_many_changes(rt: HostRuntime) {
     play(&rt, rt.alloc(), &MANY_CHANGES);
 }
 
-// Of two sessions the first insertion draws the 44 rows that it may need, and a quarter of the pool's page numbers. It writes one row, and
-// takes the leaf's first row out.
+// Of two sessions the first insertion draws the 44 rows that it may need, and a quarter of the pool's page numbers. It appends a record to
+// the leaf's row, so it writes none of them.
 const ONE_CHANGE: Story = Story {
     room: (200, 88),
     scenes: &[&[
@@ -49,9 +49,9 @@ const ONE_CHANGE: Story = Story {
             One,
             Stock {
                 pages: 50,
-                unwritten: 43,
+                unwritten: 44,
                 free: 0,
-                taken_out: 1,
+                taken_out: 0,
                 waiting: 0,
             },
         )),
@@ -148,9 +148,9 @@ const NOTHING: Stock = Stock {
 // What the first session has left after one insertion.
 const LEFT: Stock = Stock {
     pages: 22,
-    unwritten: 43,
+    unwritten: 44,
     free: 0,
-    taken_out: 1,
+    taken_out: 0,
     waiting: 0,
 };
 
@@ -191,22 +191,22 @@ const WRITTEN: Stock = Stock {
     waiting: 0,
 };
 
-// What the next one has when these have come back, and it has written one.
+// What the next one has when these have come back.
 const BACK: Stock = Stock {
     pages: 22,
     unwritten: 0,
-    free: 43,
-    taken_out: 1,
+    free: 44,
+    taken_out: 0,
     waiting: 0,
 };
 
-// 43 replacements write the rows that the first insertion has left, and take a row out each. They come back as the next
-// session at the place needs them: it inserts, writes one and takes one out.
+// Of 13 changes of one key twelve are appended, and the last writes a row and takes one out. So an insertion and 571 replacements write
+// each of the 44 rows. They come back as the next session at the place needs them: it inserts.
 const ROWS_COME_BACK: Story = Story {
     room: (22, 44),
     scenes: &[&[
         Call(One, Op::Insert(1, 0), Ok(Answer::Inserted)),
-        ReplaceOften(1, 43),
+        ReplaceOften(1, 571),
         See(Has(One, WRITTEN)),
         Call(Other, Op::Insert(2, 20), Err(Full)),
         Leave,
@@ -214,7 +214,7 @@ const ROWS_COME_BACK: Story = Story {
         See(HasRoom(One, Op::Insert(2, 20))),
         Call(One, Op::Insert(2, 20), Ok(Answer::Inserted)),
         See(Has(One, BACK)),
-        Call(One, Op::Find(1), Ok(Answer::Found(43))),
+        Call(One, Op::Find(1), Ok(Answer::Found(571))),
     ]],
     end: End::StaysOpen,
 };

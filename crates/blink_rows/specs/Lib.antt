@@ -1,6 +1,6 @@
 -- What a caller of `blink_rows` reads, in this order; then what proofs above it need; then the files themselves.
 
--- a row: the 70 words that determine a page, or a prime block
+-- a row: the words that determine a page, or a prime block
 pub use Rattle.blink_rows.specs.Row.{IsLawfulPrime, IsPageRow, IsPrimeRow, IsRowOf, IsRowOfNoPage, IsRowOfNoPrime, page_words, prime_words}
 -- a page word: it names a row, and counts the records in it
 pub use Rattle.blink_rows.specs.Naming.{no_records, page_word, records_in, row_in}

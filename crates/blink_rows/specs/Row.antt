@@ -1,4 +1,4 @@
--- A row: the 70 words that determine a page, or a prime block.
+-- A row: the `ROW_WORDS` words that determine a page, or a prime block.
 use Rattle.std.specs.Prelude.{◌≡◌, ℕ, ◌<◌, ◌≤◌, Option, Some, None, List, [], ◌∷◌, length, slice_index, EachIndex, unwrap_or, All}
 use Rattle.blink_page.specs.declared.limits.TheConstants.{LEVELS, MAX_FAN}
 use Rattle.blink_page.specs.{IsPageNumber, PlainPage, IsLawfulPage}
@@ -24,7 +24,7 @@ page_words p =
 abbrev pub prime_words : List ℕ → List ℕ
 prime_words leftmost = 0 ∷ 0 ∷ 0 ∷ 0 ∷ 0 ∷ length leftmost ∷ leftmost
 
--- 70 words that begin with these; all others are 0
+-- a row's words, which begin with these; all others are 0
 pub record IsRowOf (words content : List ℕ) : Type 0 where
   pub width : length words ≡ ROW_WORDS
   pub filled : (n : ℕ) → n < ROW_WORDS → slice_index words n ≡ slice_index content n

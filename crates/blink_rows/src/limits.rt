@@ -1,7 +1,7 @@
 //! The sizes of rows, and of a table of them.
 
 /// The number of words of a row.
-pub const ROW_WORDS: usize = 70;
+pub const ROW_WORDS: usize = 72;
 
 /// The number of a row's words before the entries of a page, or before the pages that a prime block names.
 pub const HEAD_WORDS: usize = 6;

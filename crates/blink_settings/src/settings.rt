@@ -26,7 +26,7 @@ pub enum CutKind {
 pub enum Driver {
     /// Workers take each step under one lock.
     Locked,
-    /// Workers share one table of atomic words without a global lock. The table has 25 KB for each insertion. While it is
+    /// Workers share one table of atomic words without a global lock. The table has 26 KB for each insertion. While it is
     /// opened, before the threads begin, it takes twice as much.
     Live,
 }

@@ -71,8 +71,8 @@ fn a_table_has_room_for_its_allowance(rt: HostRuntime) {
     };
     has_counts(&rt, 1, 1, 0, of_one_page);
     same(&rt, &of_one_page.row_start(1), &48);
-    same(&rt, &of_one_page.row_start(2), &118);
-    same(&rt, &of_one_page.row_start(46), &3198);
+    same(&rt, &of_one_page.row_start(2), &120);
+    same(&rt, &of_one_page.row_start(46), &3288);
 }
 
 // The row of the page is these words, and they are read as the page.
@@ -330,13 +330,13 @@ fn has_room(rt: &impl Abort, base: usize, count: u8, expected: bool) {
 }
 
 #[test]
-fn a_row_has_room_for_twelve_records_in_seventy_words(rt: HostRuntime) {
+fn a_row_has_room_for_twelve_records_in_its_words(rt: HostRuntime) {
     has_room(&rt, 0, 11, true);
     has_room(&rt, 0, 12, false);
-    has_room(&rt, 31, 0, true);
-    has_room(&rt, 32, 0, false);
-    has_room(&rt, 20, 11, true);
-    has_room(&rt, 21, 11, false);
+    has_room(&rt, 32, 0, true);
+    has_room(&rt, 32, 1, false);
+    has_room(&rt, 21, 11, true);
+    has_room(&rt, 22, 11, false);
 }
 
 #[test]

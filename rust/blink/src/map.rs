@@ -19,10 +19,10 @@ pub struct Room {
     /// is full, each session has at most 21 left, and the pool as many. Splits by one session take 19,979 of 20,000 numbers, 979 of 1,000,
     /// and 179 of 200; by eight that draw by turns 19,834 and 836 (measured).
     pub pages: u32,
-    /// Rows, of 560 bytes. Each write of a page takes one. An insertion has to have 44 when it begins, and writes one page mostly;
-    /// a deletion, a replacement or an exchange has to have one. The row that a write replaces comes back to its session, once
-    /// each call that was in progress has ended. Half of the rows are the sessions', in equal parts, of 44 at least and 4,096 at
-    /// most; a new page keeps one of the others. So two rows for each page number, and a few hundred for each session, are enough for
+    /// Rows, of 576 bytes. Most changes are appended to the row of their page, and take none; every write of a whole page takes one. An
+    /// insertion has to have 44 when it begins; a deletion, a replacement or an exchange has to have one. The row that a write replaces
+    /// comes back to its session, once each call that was in progress has ended. Half of the rows are the sessions', in equal parts, of 44
+    /// at least and 4,096 at most; a new page keeps one of the others. So two rows for each page number, and a few hundred for each session, are enough for
     /// all changes as long as the page numbers last. While a thread is held up inside a call no row comes back. A change that is
     /// short of rows on their way back waits, or is refused with [`Error::RowsBusy`] where it mustn't wait.
     pub rows: u32,
@@ -728,8 +728,8 @@ impl<'map> Session<'map> {
     /// let map = Map::open(&Index::new(32)?, Room { pages: 200, rows: 400, sessions: 1 })?;
     /// let mut session = map.session()?;
     /// session.insert(5, 50)?;
-    /// // it has drawn half of the pool, and has replaced the leaf's row by another
-    /// assert_eq!(session.reserve(), Reserve { pages: 100, unwritten: 199, free: 0, taken_out: 1, waiting: 0 });
+    /// // it has drawn half of the pool, and the insertion was appended to the leaf's row
+    /// assert_eq!(session.reserve(), Reserve { pages: 100, unwritten: 200, free: 0, taken_out: 0, waiting: 0 });
     /// # Ok::<(), blink::Error>(())
     /// ```
     pub fn reserve(&mut self) -> Reserve {

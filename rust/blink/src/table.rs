@@ -42,7 +42,7 @@ unsafe impl Send for Table {}
 
 impl Table {
     /// Opens a table over the entries of an index, which stays as it is. The table has room for so many insertions and deletions;
-    /// a replacement or an exchange uses a deletion. It takes about 25 KB for each insertion.
+    /// a replacement or an exchange uses a deletion. It takes about 26 KB for each insertion.
     pub fn open(index: &Index, inserts: u32, deletes: u32) -> Result<Table, Error> {
         let (mut handle, mut place) = (Handle::EMPTY, 0);
         // SAFETY: the index's handle is full, and this thread alone uses it.

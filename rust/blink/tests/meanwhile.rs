@@ -21,7 +21,8 @@ fn index() -> Index {
 // What other sessions do in one stop.
 struct Changes {
     ops: &'static [Op],
-    // So often a pointer is put anew at the end, and then as it was. Each time takes a row.
+    // So often a pointer is put anew three times at the end, and then as it was. Of 13 such changes one takes a row, and the others are
+    // appended to it.
     turns: u64,
 }
 
@@ -63,7 +64,7 @@ const OTHER_ENTRIES: Changes = Changes {
         Op::Insert(95, 95),
         Op::Remove(110),
     ],
-    turns: 30,
+    turns: 300,
 };
 
 type Plain = BTreeMap<u64, u64>;

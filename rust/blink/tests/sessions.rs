@@ -216,7 +216,8 @@ fn sessions_that_draw_by_turns_lose_no_page_number() {
     }
 }
 
-// The first insertion has all rows, and the fifth splits the leaf: no insertion has room any more. A row comes back for each put.
+// The first insertion has all rows, and the fifth splits the leaf: no insertion has room any more. The puts add records to the leaf's row, or
+// write a row that came back.
 #[test]
 fn a_full_map_takes_puts_of_keys_that_are_there() {
     let map = map_over(&Index::new(4).unwrap(), 200, 44, 1);
@@ -273,9 +274,9 @@ fn reserve(pages: u64, unwritten: u64, free: u64, taken_out: u64) -> Reserve {
     Reserve { pages, unwritten, free, taken_out, waiting: 0 }
 }
 
-// A leaf has 4 entries. Of two sessions the first insertion draws a quarter of the pool, 50 page numbers and 50 rows, and each writes one row,
-// which replaces the one before. The fifth splits the leaf: it writes the new leaf, the old one, the new root and the prime block,
-// and the rows of the second and the fourth replace others.
+// A leaf has 4 entries. Of two sessions the first insertion draws a quarter of the pool, 50 page numbers and 50 rows. Four insertions are
+// appended to the leaf's row, and use none. The fifth splits the leaf: it writes the new leaf, the old one, the new root and the prime block,
+// and the rows of the second and the fourth replace others. The eighth splits the new leaf: it writes another new one, that one, and the root.
 #[test]
 fn a_session_tells_what_its_insertions_use() {
     let map = map_over(&Index::new(4).unwrap(), 200, 200, 2);
@@ -283,36 +284,40 @@ fn a_session_tells_what_its_insertions_use() {
     assert_eq!(session.reserve(), reserve(0, 0, 0, 0));
     for key in 1..5 {
         assert_eq!(session.insert(key, key), Ok(Answer::Inserted));
-        assert_eq!(session.reserve(), reserve(50, 50 - key, 0, key));
+        assert_eq!(session.reserve(), reserve(50, 50, 0, 0));
     }
-    assert_eq!(session.insert(5, 5), Ok(Answer::Inserted));
-    assert_eq!(session.reserve(), reserve(48, 42, 0, 6));
+    for key in 5..8 {
+        assert_eq!(session.insert(key, key), Ok(Answer::Inserted));
+        assert_eq!(session.reserve(), reserve(48, 46, 0, 2));
+    }
+    assert_eq!(session.insert(8, 8), Ok(Answer::Inserted));
+    assert_eq!(session.reserve(), reserve(47, 43, 0, 4));
     // what changes nothing uses nothing
-    assert_eq!((session.remove(6), session.replace(6, 0)), (Ok(Answer::Absent), Ok(Answer::Absent)));
-    assert_eq!(session.reserve(), reserve(48, 42, 0, 6));
+    assert_eq!((session.remove(9), session.replace(9, 0)), (Ok(Answer::Absent), Ok(Answer::Absent)));
+    assert_eq!(session.reserve(), reserve(47, 43, 0, 4));
     // an insertion has to have 44 rows when it begins, so the rows that were replaced come back before; it changes nothing either
     assert_eq!(session.insert(5, 6), Ok(Answer::Exists(5)));
-    assert_eq!((session.reserve(), other.reserve()), (reserve(48, 42, 6, 0), reserve(0, 0, 0, 0)));
+    assert_eq!((session.reserve(), other.reserve()), (reserve(47, 43, 4, 0), reserve(0, 0, 0, 0)));
     assert_eq!(map.room(), Left { pages: 150, rows: 150 });
 }
 
-// Of one session the first replacement draws half of the pool, 100 rows. Rows that were replaced begin to wait 64 at a time, and as no
-// other call is in progress they are free at once; free rows are written first. A session that joins later has what the last one at
-// its place left.
+// Of one session the first replacement draws half of the pool, 100 rows. Of 13 replacements twelve are appended, and the last writes a row.
+// Rows that were replaced begin to wait 64 at a time, and as no other call is in progress they are free at once; free rows are written
+// first. A session that joins later has what the last one at its place left.
 #[test]
 fn a_session_tells_which_rows_have_come_back() {
     let index = Index::from_entries(4, [(1, 0)]).unwrap();
     let map = map_over(&index, 0, 200, 1);
     let mut session = map.session().unwrap();
-    for turn in 0..200 {
+    for turn in 0..200 * 13 {
         assert_eq!(session.replace(1, turn + 1), Ok(Answer::Replaced(turn)));
-        let expected = match turn + 1 {
+        let expected = match (turn + 1) / 13 {
             n @ 0..=63 => reserve(0, 100 - n, 0, n),
             n => reserve(0, 36, 64 - n % 64, n % 64),
         };
         assert_eq!(session.reserve(), expected, "{turn}");
     }
-    // 200 are three times 64 and 8
+    // 200 rows are three times 64 and 8
     assert_eq!((session.reserve(), map.room()), (reserve(0, 36, 56, 8), Left { pages: 0, rows: 100 }));
     drop(session);
     assert_eq!(map.session().unwrap().reserve(), reserve(0, 36, 56, 8));
@@ -392,7 +397,7 @@ fn rows_come_back_while_threads_change_a_map() {
     const KEYS: u64 = 1_000;
     const CHANGES: u64 = 400_000;
     let entries: Vec<(u64, u64)> = (0..KEYS).map(|key| (key, 0)).collect();
-    // an eighth of the rows that the changes write
+    // Leaves are full at first, and such a row has room for one record: so this is a quarter of the rows that the changes write.
     let map = map_over(&Index::from_entries(32, entries.iter().copied()).unwrap(), 1_000, 200_000, 4);
     thread::scope(|scope| {
         for thread in 0..4 {

@@ -175,8 +175,8 @@ fn inserts<R: Reads>(insert: impl FnOnce() -> Result<Answer, Error>, readers: &m
         true
     });
     assert_eq!(answer, Ok(Answer::Inserted));
-    // The new page is written before the entry is there or as it comes, and the page above after it. A row has 70 words.
-    assert!(before > 70 && after > 70, "{before} instructions before, {after} after");
+    // The new page is written before the entry is there or as it comes, and the page above after it. A row has 72 words.
+    assert!(before > 72 && after > 72, "{before} instructions before, {after} after");
 }
 
 fn session_inserts(full: &Full, new: u64) {

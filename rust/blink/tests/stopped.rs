@@ -11,8 +11,11 @@ use std::sync::atomic::{AtomicBool, AtomicU64, Ordering::SeqCst};
 use std::thread;
 use stepped::{by_instruction, handle};
 
-// The rows of the map's room. A replacement writes one.
+// The rows of the map's room.
 const ROWS: u32 = 100;
+
+// So many replacements in one leaf write one row: twelve are appended to the leaf's row, and the next writes another.
+const PER_ROW: u32 = 13;
 
 // The most rows that a session has: half of them over all sessions would be fewer than an insertion may need.
 const QUOTA: u32 = 44;
@@ -75,7 +78,7 @@ fn stops_after(instructions: u32) -> Option<bool> {
         || reader.get(1),
         || {
             if passed == instructions {
-                replaced = Some(writer.replaces_at_most(3 * ROWS));
+                replaced = Some(writer.replaces_at_most(3 * ROWS * PER_ROW));
                 assert_eq!(late.replace(2, 21), Ok(Answer::Replaced(20)));
             }
             passed += 1;
@@ -83,20 +86,21 @@ fn stops_after(instructions: u32) -> Option<bool> {
         },
     );
     let replaced = replaced?;
-    // The rows come back, or each of the writer's is written once and none comes back: one for each replacement.
-    assert!(replaced == QUOTA || replaced == 3 * ROWS, "{replaced} changes after {instructions} instructions");
+    // The rows come back, or each of the writer's is written once and none comes back.
+    let is_held = replaced == QUOTA * PER_ROW;
+    assert!(is_held || replaced == 3 * ROWS * PER_ROW, "{replaced} changes after {instructions} instructions");
     let found = found.unwrap();
     assert!(found == FIRST || found == FIRST + u64::from(replaced), "{found} after {instructions} instructions");
     // Of three sessions one draws a sixth of what the pool has, of 100 rows 16, and the late one 14 of the other 84. The writer draws
     // again only while its rows don't come back, up to its quota of 44; then the late one draws 9 of 56.
-    assert_eq!(map.room(), Left { pages: 0, rows: if replaced == QUOTA { 47 } else { 70 } });
+    assert_eq!(map.room(), Left { pages: 0, rows: if is_held { 47 } else { 70 } });
     // The reader has gone on, so no row is held back any more.
-    assert_eq!(writer.replaces_at_most(5 * ROWS), 5 * ROWS);
+    assert_eq!(writer.replaces_at_most(5 * ROWS * PER_ROW), 5 * ROWS * PER_ROW);
     assert_eq!(reader.get(1), Some(writer.pointer));
     drop((writer, reader, late));
-    let last = FIRST + u64::from(replaced + 5 * ROWS);
+    let last = FIRST + u64::from(replaced + 5 * ROWS * PER_ROW);
     assert!(map.close().unwrap().iter().eq([(1, last), (2, 21), (3, 30), (4, 40)]));
-    Some(replaced == 3 * ROWS)
+    Some(!is_held)
 }
 
 #[test]
@@ -140,14 +144,14 @@ fn rows_come_back_though_the_reader_is_always_inside_a_call() {
     by_instruction(in_each_call, || {
         pass();
         if passed.get() == midst {
-            replaced.push(writer.replaces_at_most(3 * ROWS));
+            replaced.push(writer.replaces_at_most(3 * ROWS * PER_ROW));
         }
         true
     });
     // At the first stop each of the writer's rows is written once, and none comes back: so the reader is inside its call there.
-    assert_eq!((replaced.len(), replaced[0]), (CALLS, QUOTA));
+    assert_eq!((replaced.len(), replaced[0]), (CALLS, QUOTA * PER_ROW));
     // In each later call the rows of the call before come back, and no others: at most as many as the writer has.
-    assert!(replaced.iter().all(|count| (1..=QUOTA).contains(count)), "{replaced:?}");
+    assert!(replaced.iter().all(|count| (1..=QUOTA * PER_ROW).contains(count)), "{replaced:?}");
     let last = FIRST + replaced.iter().map(|count| u64::from(*count)).sum::<u64>();
     assert_eq!(reader.get(1), Some(last));
     drop((writer, reader));

@@ -1,15 +1,12 @@
--- What an operation makes of its leaf, where it knows the key's place there.
-use Rattle.std.proofs.Common.{◌≡◌, ◌≢◌, ℕ, suc, ◌+◌, ◌^◌, ◌<◌, ◌≤◌, Option, Some, None, ◌∷◌, ◌++◌, length, take, drop, refl, sym, ap, ◌∙◌, subst, arith}
+-- What an operation makes of its leaf, of which it knows how many entries it has, and what it has for the key.
+use Rattle.std.proofs.Common.{◌≡◌, ◌≢◌, ℕ, ◌^◌, ◌<◌, ◌≤◌, Option, Some, None, length, refl, sym, ap, ◌∙◌, subst, arith}
 use Rattle.std.specs.Prelude.{IsSome}
-use Rattle.std.proofs.lemmas.List.{set_split}
 use Rattle.blink_batch.specs.{answer_at, key_of}
 use Rattle.blink_batch.specs.declared.Op.{Op}
 use Rattle.blink_batch.specs.declared.Op.TheVariants.{Delete, Insert, Replace}
-use Rattle.blink_page.specs.{IsFan, IsKeyOf, IsLawfulPage, PlainPage, added, entries_with, least_above, place_of, removed, replaced, value_at, with_entries}
+use Rattle.blink_page.specs.{IsFan, IsKeyOf, PlainPage, added, entries_with, least_above, removed, replaced, value_at, with_entries}
 use Rattle.blink_page.specs.declared.limits.TheConstants.{MAX_FAN}
 use Rattle.blink_page.proofs.Offered.{entries_with-leaf}
-use Rattle.blink_page.proofs.ChangedEntries.{length-added, length-removed, length-replaced}
-use Rattle.blink_page.proofs.WhereSearchesEnd.{added-place, place_at_most, place_found, removed-place, replaced-place}
 use Rattle.blink_machine.specs.declared.machine.Job.{Job}
 use Rattle.blink_machine.specs.declared.machine.Job.TheVariants.{Leaf}
 use Rattle.blink_machine.specs.declared.machine.Next.TheVariants.{Finish}
@@ -20,55 +17,7 @@ use Rattle.blink_machine.specs.Table.{Brings, IsChange, IsFullFor, Removes, Swap
 use Rattle.blink_live.specs.declared.descent.Edit.TheVariants.{Answers, Whole, Write}
 use Rattle.blink_live.specs.declared.descent.Spot.{Spot}
 use Rattle.blink_rows.specs.{Fits}
-use Rattle.blink_live.specs.Straight.{IsEditOf, IsSplice, IsSpot, addition_of, exchange_of, removal_of, splice_of}
-
--- ---- the entries at a key's place
-
-module _ (key : ℕ) (page : PlainPage) (spot : Spot) (lawful : IsLawfulPage MAX_FAN page) (at : IsSpot key page spot) where
-  -- with the key's entry taken out
-  pub splices_removed : IsSome (value_at key page.entries) → IsSplice spot.place (splice_of (removal_of key)) page (with_entries page (removed key page.entries))
-  splices_removed found =
-      let inside = place_found key (least_above page.floor) page.entries (page.high + 1) lawful.keys_rise found in
-      let place = at.place in
-      let next : suc (place_of key page.entries) ≡ spot.place + 1 = omega (arith, place) in
-      let shorter = length-removed key page.entries found in
-      let few = lawful.at_most_fan in
-      record {
-        inside = omega (arith, inside, place);
-        is = ap (with_entries page) (removed-place key (least_above page.floor) page.entries (page.high + 1) lawful.keys_rise found
-            ∙ (λ i. take (sym place i) page.entries ++ drop (next i) page.entries));
-        fits = omega (arith, shorter, few);
-      }
-
-  -- with another pointer
-  pub splices_replaced : (pointer : ℕ) → IsSome (value_at key page.entries) → IsSplice spot.place (splice_of (exchange_of key pointer)) page (with_entries page (replaced (key, pointer) page.entries))
-  splices_replaced pointer found =
-      let inside = place_found key (least_above page.floor) page.entries (page.high + 1) lawful.keys_rise found in
-      let place = at.place in
-      let next : suc (place_of key page.entries) ≡ spot.place + 1 = omega (arith, place) in
-      let as_long = length-replaced key pointer page.entries in
-      let few = lawful.at_most_fan in
-      record {
-        inside = omega (arith, inside, place);
-        is = ap (with_entries page) (replaced-place key pointer (least_above page.floor) page.entries (page.high + 1) lawful.keys_rise found
-            ∙ set_split page.entries (place_of key page.entries) (key, pointer) inside
-            ∙ (λ i. take (sym place i) page.entries ++ (key, pointer) ∷ drop (next i) page.entries));
-        fits = omega (arith, as_long, few);
-      }
-
-  -- with one entry more
-  pub splices_added : (fan pointer : ℕ) → length page.entries < fan → fan ≤ MAX_FAN → IsSplice spot.place (splice_of (addition_of key pointer)) page (with_entries page (added (key, pointer) page.entries))
-  splices_added fan pointer room small =
-      let inside = place_at_most key page.entries in
-      let place = at.place in
-      let next : place_of key page.entries ≡ spot.place + 0 = omega (arith, place) in
-      let longer = length-added key pointer page.entries in
-      record {
-        inside = omega (arith, inside, place);
-        is = ap (with_entries page) (added-place key pointer page.entries
-            ∙ (λ i. take (sym place i) page.entries ++ (key, pointer) ∷ drop (next i) page.entries));
-        fits = omega (arith, longer, room, small);
-      }
+use Rattle.blink_live.specs.Straight.{IsEditOf, IsSpot, addition_of, exchange_of, removal_of}
 
 -- ---- each operation
 
@@ -85,7 +34,7 @@ removes op fan key kept spot its_key how found m number page same_op same_fan le
     let below : target m ≤ page.high = subst (λ (k : ℕ). k ≤ page.high) (its_target m op same_op leaf) at.below in
     let change : IsChange m page next spot.kept = IsChange.loses key kept leaf (subst (λ (o : Op). Removes o key kept) (sym same_op) how) there found refl in
     let has : IsSome (value_at key page.entries) = subst IsSome (sym there) refl in
-    (after, (refl, record { leaf = level; pointer_in_range = omega arith; finds = has }, splices_removed key page spot lawful at_key has, refl), SeesUnderLatch.is_to_change next spot.kept below change refl)
+    (after, (refl, record { leaf = level; pointer_in_range = omega arith; finds = has }, refl), SeesUnderLatch.is_to_change next spot.kept below change refl)
 
 pub swaps : (op : Op) (fan key new kept : ℕ) (spot : Spot) → new < 2 ^ 64 → key_of op ≡ key → Swaps op key new kept → spot.kept ≡ Some kept → IsEditOf op fan spot (Write spot (exchange_of key new))
 swaps op fan key new kept spot small its_key how found m number page same_op same_fan leaf readable level lawful at =
@@ -96,7 +45,7 @@ swaps op fan key new kept spot small its_key how found m number page same_op sam
     let below : target m ≤ page.high = subst (λ (k : ℕ). k ≤ page.high) (its_target m op same_op leaf) at.below in
     let change : IsChange m page next spot.kept = IsChange.swaps key new kept leaf (subst (λ (o : Op). Swaps o key new kept) (sym same_op) how) there found refl in
     let has : IsSome (value_at key page.entries) = subst IsSome (sym there) refl in
-    (after, (refl, record { leaf = level; pointer_in_range = omega (arith, small); finds = has }, splices_replaced key page spot lawful at_key new has, refl), SeesUnderLatch.is_to_change next spot.kept below change refl)
+    (after, (refl, record { leaf = level; pointer_in_range = omega (arith, small); finds = has }, refl), SeesUnderLatch.is_to_change next spot.kept below change refl)
 
 -- ---- an insertion
 
@@ -121,9 +70,9 @@ adds fan key pointer spot small is_fan none room m number page same_op same_fan 
     let floor = readable.floor_below in
     let belongs : IsKeyOf page key = (subst (λ (k : ℕ). least_above page.floor ≤ k) (sym target_is) floor, at.below) in
     let fits : Fits MAX_FAN page (addition_of key pointer) = record { leaf = level; pointer_in_range = omega (arith, small); finds = (belongs, sym at.kept ∙ none, omega (arith, fewer, fans)) } in
-    (after, (refl, fits, splices_added key page spot lawful at fan pointer fewer (omega (arith, fans)), refl), SeesUnderLatch.is_to_change next spot.kept below change refl)
+    (after, (refl, fits, refl), SeesUnderLatch.is_to_change next spot.kept below change refl)
 
-pub splits : (fan key pointer : ℕ) (spot : Spot) → spot.kept ≡ None → fan ≤ spot.count → IsEditOf (Insert key pointer) fan spot (Whole spot.row)
+pub splits : (fan key pointer : ℕ) (spot : Spot) → spot.kept ≡ None → fan ≤ spot.count → IsEditOf (Insert key pointer) fan spot (Whole spot.word)
 splits fan key pointer spot none no_room m number page same_op same_fan leaf readable level lawful at =
     let count = at.count in
     let most = readable.at_most_fan in

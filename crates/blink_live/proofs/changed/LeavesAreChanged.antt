@@ -1,19 +1,18 @@
 -- What is so of an operation on the straight path is so after each of its steps too.
-use Rattle.std.proofs.Common.{◌≡◌, ℕ, ◌<◌, Option, Some, None, length, ap, sym, ◌∙◌, subst, refl}
+use Rattle.std.proofs.Common.{◌≡◌, ℕ, ◌<◌, Option, Some, None, List, length, ap, sym, ◌∙◌, subst, refl}
 use Rattle.atomic_table.specs.declared.Seat.{Seat}
 use Rattle.blink_batch.specs.{key_of}
 use Rattle.blink_batch.specs.declared.Op.{Op}
 use Rattle.blink_page.specs.{PlainPage}
-use Rattle.blink_rows.specs.{PlainCounts, page_after, records_in, row_in}
-use Rattle.blink_rows.proofs.Offered.{row_of_row}
-use Rattle.blink_live.proofs.table.VersionsOfPages.{row_is_below}
+use Rattle.blink_page.specs.declared.limits.TheConstants.{MAX_FAN}
+use Rattle.blink_rows.specs.{Fits, PlainCounts, page_after, page_words, row_in}
+use Rattle.blink_rows.specs.declared.log.Record.{Record}
 use Rattle.blink_machine.specs.declared.machine.Next.TheVariants.{MoveRight}
-use Rattle.blink_machine.specs.declared.machine.State.TheVariants.{Change, Leave, SplitNew}
+use Rattle.blink_machine.specs.declared.machine.State.TheVariants.{Leave, SplitNew}
 use Rattle.blink_machine.specs.{NeedsWrite, PlainMachine, SeesPage, SeesUnderLatch, page_out}
 use Rattle.blink_live.specs.declared.descent.Descent.{Descent}
 use Rattle.blink_live.specs.declared.descent.Edit.{Edit}
 use Rattle.blink_live.specs.declared.descent.Edit.TheVariants.{Answers, Right, Whole, Write}
-use Rattle.blink_live.specs.declared.descent.Splice.{Splice}
 use Rattle.blink_live.specs.declared.descent.Spot.{Spot}
 use Rattle.blink_live.specs.declared.live.Live.{Live}
 use Rattle.blink_live.specs.declared.room.Room.{Room}
@@ -23,15 +22,15 @@ use Rattle.blink_live.specs.declared.view.Stock.{Stock}
 use Rattle.blink_live.specs.declared.view.View.{View}
 use Rattle.blink_live.specs.AtomicSteps.{LoadsPage, PublishesPage}
 use Rattle.blink_live.specs.ComingBack.{puts_back}
-use Rattle.blink_live.specs.Seats.{HasSameNumber, IsPassSeat, IsSameSeat, ReadsPage, ReadsVersion}
+use Rattle.blink_live.specs.Seats.{HasSameNumber, IsPassSeat, IsSameSeat, ReadsVersion}
 use Rattle.blink_live.specs.Shelves.{IsLent, IsSameBesideShelf, IsShelved, IsShelvedBut, free_in, stock_of}
-use Rattle.blink_live.specs.Straight.{HasMet, IsEditOf, IsSplice, IsSpot, IsToWrite, Makes, NeedsWhole, at_leaf, holding, leaving, splice_of}
+use Rattle.blink_live.specs.Straight.{HasMet, IsEditOf, IsSpot, IsToChange, Makes, NeedsWhole, added_nothing, at_leaf, changing, holding, leaving}
 use Rattle.blink_live.specs.Updating.{CanWrite, HasLeft, IsUnderWay, IsUpdating, UsesSpareFirst}
-use Rattle.blink_live.specs.Views.{IsCommon, IsOwned, SeatState, for_call, no_aside, takes_out}
-use Rattle.blink_live.specs.Words.{IsRowNumber}
+use Rattle.blink_live.specs.Views.{appending_at, IsCommon, IsOwned, SeatState, for_call, no_aside, takes_out}
+use Rattle.blink_live.specs.Words.{IsRowNumber, IsVersion}
 use Rattle.blink_live.proofs.changed.CallsWrite.{writes_lent, writes_own}
 use Rattle.blink_live.proofs.changed.UpdatesGoOn as on
-use Rattle.blink_live.proofs.found.VersionsAreRead.{page_alone, version_alone, version_loaded}
+use Rattle.blink_live.proofs.found.VersionsAreRead.{version_loaded}
 
 -- a load of the row changes nothing
 pub stays : {live : Live} {op : Op} {first seat : Seat ℕ View} {m : PlainMachine} {room : Room} → IsUnderWay live op first seat m room → (next : Seat ℕ View) → IsSameSeat seat next → IsUnderWay live op first next m room
@@ -52,10 +51,6 @@ same_machine {live} {op} {first} {seat} {m} {room} is other same = subst (λ (x 
 
 -- ---- the leaf that it reads under the latch
 
--- where it has no records
-pub reads_it : {m machine : PlainMachine} {number word : ℕ} {me then : SeatState} → (loads : LoadsPage m number me word machine then) → (records_in word).count ≡ 0 → ReadsPage then (row_in word) loads.page
-reads_it loads none = page_alone (version_loaded loads) none
-
 module _ (live : Live) (op : Op) (descent : Descent) (first seat loaded next : Seat ℕ View) (room : Room) (word : ℕ) (is : IsUnderWay live op first seat (holding live.fan op descent) room)
     (same : HasSameNumber seat loaded) (machine : PlainMachine) (loads : LoadsPage (holding live.fan op descent) descent.leaf seat.me word machine loaded.me) where
   pub under_latch : IsUnderWay live op first loaded machine room
@@ -64,25 +59,15 @@ module _ (live : Live) (op : Op) (descent : Descent) (first seat loaded next : S
   pub row_there : IsRowNumber live.counts (row_in word)
   row_there = subst (λ (counts : PlainCounts). IsRowNumber counts (row_in word)) (ap (λ (p : Plan). p.counts) (on.is_its_seat is).same_plan ∙ sym live.counts_are) loads.row_in_range
 
-  -- a leaf that has records
-  pub meets_records : HasMet live op descent first loaded room (Whole word)
-  meets_records = record {
-    page = loads.page;
-    after = machine;
-    reads = version_loaded loads;
-    in_range = row_there;
-    readable = loads.readable;
-    only = loads.only;
-    under_way = under_latch;
-  }
-
-  module _ (none : (records_in word).count ≡ 0) (stay : IsSameSeat loaded next) where
-    reads_still : ReadsPage next.me (row_in word) loads.page
-    reads_still = subst (λ (x : SeatState). ReadsPage x (row_in word) loads.page) (sym stay.2) (reads_it loads none)
-
-    -- the row's number is the page word that names it and counts no records
-    version_still : ReadsVersion next.me (row_in word) loads.page
-    version_still = subst (λ (x : SeatState). ReadsVersion x (row_in word) loads.page) (sym stay.2) (version_alone (version_loaded loads) none)
+  module _ (stay : IsSameSeat loaded next) where
+    -- it still reads the version that this page word names, by another name
+    abbrev pub version_still : (w : ℕ) → word ≡ w → ReadsVersion next.me w loads.page
+    version_still w same_word = record {
+      base = loads.base;
+      reads = ap (λ (x : SeatState). x.0.reads) stay.2 ∙ ((version_loaded loads).reads ∙ ap (λ (k : ℕ). let e : Option (ℕ × List ℕ) = Some (row_in k, page_words loads.base) in e) same_word);
+      version = subst (λ (x : ℕ × SeatState). IsVersion x.0 loads.base x.1.0.behind loads.page) (λ i. (same_word i, sym stay.2 i)) (version_loaded loads).version;
+      lawful = loads.lawful;
+    }
 
     is_machine : (other : PlainMachine) → SeesUnderLatch (holding live.fan op descent) descent.leaf loads.page other → machine ≡ other
     is_machine other sees = sym (loads.only other (SeesPage.under_latch refl sees))
@@ -93,90 +78,76 @@ module _ (live : Live) (op : Op) (descent : Descent) (first seat loaded next : S
     pub meets_right : (right : ℕ) → loads.page.high < key_of op → loads.page.right ≡ Some right → HasMet live op descent first next room (Right right)
     meets_right right above link = now (at_leaf live.fan op descent (Leave descent.leaf (MoveRight right)) None) (SeesUnderLatch.is_above_high_key right above link refl)
 
-    module _ (spot : Spot) (row_is : spot.row ≡ row_in word) (at : IsSpot (key_of op) loads.page spot) (after : PlainMachine) (sees : SeesUnderLatch (holding live.fan op descent) descent.leaf loads.page after) where
+    module _ (spot : Spot) (word_is : spot.word ≡ word) (base_is : spot.base ≡ length loads.base.entries) (at : IsSpot (key_of op) loads.page spot) (after : PlainMachine) (sees : SeesUnderLatch (holding live.fan op descent) descent.leaf loads.page after) where
+      -- what it is to change, by what it knows of the leaf
+      to_change : (r : Record) → Fits MAX_FAN loads.page r → after ≡ changing live.fan op descent spot loads.page r → IsToChange live op descent first next room spot r
+      to_change r fits makes = record {
+        page = loads.page;
+        version = version_still spot.word (sym word_is);
+        in_range = subst (λ (k : ℕ). IsRowNumber live.counts (row_in k)) (sym word_is) row_there;
+        base = base_is;
+        fits = fits;
+        appends = ap (λ (x : SeatState). x.0.appends) stay.2 ∙ (ap (λ (x : SeatState). x.0.appends) loads.is ∙ (ap (λ (k : PlainMachine). appending_at word k.state) (is_machine after sees ∙ makes) ∙ ap (λ (w : ℕ). Some (added_nothing descent.leaf w)) (sym word_is)));
+        under_way = same_machine (now after sees) (changing live.fan op descent spot loads.page r) makes;
+      }
+
       by_edit : (edit : Edit) → Makes (holding live.fan op descent) descent.leaf spot loads.page edit after → HasMet live op descent first next room edit
       by_edit (Right right) makes = same_machine (now after sees) (at_leaf live.fan op descent (Leave descent.leaf (MoveRight right)) None) makes
       by_edit (Answers kept) makes = same_machine (now after sees) (leaving live.fan op descent kept) makes
-      by_edit (Whole full_row) makes =
-          let here : full_row ≡ row_in word = makes.0 ∙ row_is in
+      by_edit (Whole full) makes =
+          let here : full ≡ word = makes.0 ∙ word_is in
           let then : PlainMachine = at_leaf live.fan op descent (SplitNew descent.leaf loads.page) None in record {
             page = loads.page;
             after = then;
-            reads = subst (λ (r : ℕ). ReadsVersion next.me r loads.page) (sym here) version_still;
-            in_range = subst (λ (r : ℕ). IsRowNumber live.counts (row_in r)) (sym here) (subst (IsRowNumber live.counts) (sym (row_of_row (row_in word) (row_is_below word))) row_there);
+            reads = version_still full (sym here);
+            in_range = subst (λ (k : ℕ). IsRowNumber live.counts (row_in k)) (sym here) row_there;
             readable = loads.readable;
             only = λ other its. loads.only other its ∙ (is_machine after sees ∙ makes.1);
             under_way = same_machine (now after sees) then makes.1;
           }
-      by_edit (Write its r) makes =
-          let same_spot : its ≡ spot = makes.0 in
-          let here : its.row ≡ row_in word = ap (λ (s : Spot). s.row) same_spot ∙ row_is in
-          let changed : PlainPage = page_after loads.page r in
-          record {
-            writes = record {
-              page = loads.page;
-              next = changed;
-              reads = subst (λ (r : ℕ). ReadsPage next.me r loads.page) (sym here) reads_still;
-              in_range = subst (IsRowNumber live.counts) (sym here) row_there;
-              count = ap (λ (s : Spot). s.count) same_spot ∙ at.count;
-              splices = subst (λ (s : Spot). IsSplice s.place (splice_of r) loads.page changed) (sym same_spot) makes.2;
-              under_way = subst (λ (s : Spot). IsUnderWay live op first next (at_leaf live.fan op descent (Change descent.leaf changed s.kept) None) room) (sym same_spot)
-                  (same_machine (now after sees) (at_leaf live.fan op descent (Change descent.leaf changed spot.kept) None) makes.3);
-            };
-            fits = makes.1;
-            is_after = refl;
-          }
+      by_edit (Write its r) makes = subst (λ (s : Spot). IsToChange live op descent first next room s r) (sym makes.0) (to_change r makes.1 makes.2)
 
-    pub meets : (edit : Edit) (spot : Spot) → spot.row ≡ row_in word → IsSpot (key_of op) loads.page spot → IsEditOf op live.fan spot edit → HasMet live op descent first next room edit
-    meets edit spot row_is at edits =
+    pub meets : (edit : Edit) (spot : Spot) → spot.word ≡ word → spot.base ≡ length loads.base.entries → IsSpot (key_of op) loads.page spot → IsEditOf op live.fan spot edit → HasMet live op descent first next room edit
+    meets edit spot word_is base_is at edits =
         let made = edits (holding live.fan op descent) descent.leaf loads.page refl refl refl loads.readable loads.readable.has_level loads.lawful at in
-        by_edit spot row_is at made.0 made.2 edit made.1
+        by_edit spot word_is base_is at made.0 made.2 edit made.1
 
 -- ---- the row that it publishes
 
-module _ {live : Live} {op : Op} {descent : Descent} {first seat : Seat ℕ View} {room : Room} {spot : Spot} {splice : Splice} (writes : IsToWrite live op descent first seat room spot splice) where
+module _ {live : Live} {op : Op} {descent : Descent} {first seat : Seat ℕ View} {room : Room} {spot : Spot} {r : Record} (to : IsToChange live op descent first seat room spot r) where
+  -- the machine that it would be
   abbrev pub writing : PlainMachine
-  writing = at_leaf live.fan op descent (Change descent.leaf writes.next spot.kept) None
+  writing = changing live.fan op descent spot to.page r
 
-  pub its_operation : seat.me.0.operation ≡ Some writing
-  its_operation = on.is_its_operation writes.under_way (λ ends. absurd (cc))
+  -- it has read its leaf's version
+  module _ (read : Seat ℕ View) (stay : IsSameSeat seat read) where
+    pub under_way_still : IsUnderWay live op first read writing room
+    under_way_still = stays to.under_way read stay
 
-  module _ (next : Seat ℕ View) (same : HasSameNumber seat next) where
-    abbrev CanWriteLeaf : ℕ → Type 0
-    CanWriteLeaf row = (m : PlainMachine) × (page : PlainPage) × CanWrite live m row next × NeedsWrite m descent.leaf × IsSplice spot.place splice page (page_out m 0) × ReadsPage next.me spot.row page × (spot.count ≡ length page.entries)
+    pub its_operation : read.me.0.operation ≡ Some writing
+    its_operation = on.is_its_operation under_way_still (λ ends. absurd (cc))
 
-    -- a row that the shelf has lent
-    pub lent_leaf : (then : Room) (row : ℕ) → IsLent row seat.me next.me then → IsRowNumber live.counts row → CanWriteLeaf row
-    lent_leaf then row lent in_range = (
-      writing,
-      writes.page,
-      writes_lent live op first seat next writing room then writes.under_way (λ ends. absurd (cc)) same row lent in_range,
-      refl,
-      writes.splices,
-      record { reads = ap (λ (x : SeatState). x.0.reads) lent.is ∙ writes.reads.reads; lawful = writes.reads.lawful },
-      writes.count,
-    )
+    module _ (next : Seat ℕ View) (same : HasSameNumber read next) where
+      abbrev CanWriteLeaf : ℕ → PlainPage → Type 0
+      CanWriteLeaf row page = (m : PlainMachine) × CanWrite live m row next × NeedsWrite m descent.leaf × (page ≡ page_out m 0)
 
-    -- or one of its own
-    pub own_leaf : (then : Room) → next.me ≡ seat.me → IsSameBesideShelf room then → free_in room.shelf ≡ 0 → CanWriteLeaf then.rows.next
-    own_leaf then none same_room none_free = (
-      writing,
-      writes.page,
-      writes_own live op first seat next writing room then writes.under_way (λ ends. absurd (cc)) same none same_room (on.row_for_page writes.under_way descent.leaf refl none_free),
-      refl,
-      writes.splices,
-      record { reads = ap (λ (x : SeatState). x.0.reads) none ∙ writes.reads.reads; lawful = writes.reads.lawful },
-      writes.count,
-    )
+      -- a row that the shelf has lent
+      pub lent_leaf : (then : Room) (row : ℕ) (page : PlainPage) → page ≡ page_after to.page r → IsLent row read.me next.me then → IsRowNumber live.counts row → CanWriteLeaf row page
+      lent_leaf then row page is lent in_range = (writing, writes_lent live op first read next writing room then under_way_still (λ ends. absurd (cc)) same row lent in_range, refl, is)
 
-  -- it is still a pass's seat
-  pub seat_published : (next last : Seat ℕ View) (number out : ℕ) (m : PlainMachine) → HasSameNumber seat next → HasSameNumber next last → next.me.0.plan ≡ seat.me.0.plan → next.me.0.role ≡ seat.me.0.role → PublishesPage number out m next.me last.me → IsPassSeat live last.table_id last.me
-  seat_published next last number out m one two plan role does =
-      let its = on.is_its_seat writes.under_way in record {
-        same_table = two.0 ∙ (one.0 ∙ its.same_table);
-        same_plan = ap (λ (x : SeatState). x.0.plan) does.is ∙ (plan ∙ its.same_plan);
-        role = ap (λ (x : SeatState). x.0.role) does.is ∙ (role ∙ its.role);
-      }
+      -- or one of its own
+      pub own_leaf : (then : Room) (page : PlainPage) → page ≡ page_after to.page r → next.me ≡ read.me → IsSameBesideShelf room then → free_in room.shelf ≡ 0 → CanWriteLeaf then.rows.next page
+      own_leaf then page is none same_room none_free =
+          (writing, writes_own live op first read next writing room then under_way_still (λ ends. absurd (cc)) same none same_room (on.row_for_page under_way_still descent.leaf refl none_free), refl, is)
+
+    -- it is still a pass's seat
+    pub seat_published : (next last : Seat ℕ View) (number out : ℕ) (m : PlainMachine) → HasSameNumber read next → HasSameNumber next last → next.me.0.plan ≡ read.me.0.plan → next.me.0.role ≡ read.me.0.role → PublishesPage number out m next.me last.me → IsPassSeat live last.table_id last.me
+    seat_published next last number out m one two plan role does =
+        let its = on.is_its_seat under_way_still in record {
+          same_table = two.0 ∙ (one.0 ∙ its.same_table);
+          same_plan = ap (λ (x : SeatState). x.0.plan) does.is ∙ (plan ∙ its.same_plan);
+          role = ap (λ (x : SeatState). x.0.role) does.is ∙ (role ∙ its.role);
+        }
 
 -- the shelf lacks the row that was taken out
 pub shelved_but : (shelf : Option Shelf) (out : ℕ) (v w : View) → w.plan ≡ v.plan → w.stock ≡ takes_out out v.stock → IsShelved shelf v → IsShelvedBut out shelf w

@@ -22,13 +22,13 @@ use Rattle.blink_live.specs.declared.view.Plan.{Plan}
 use Rattle.blink_live.specs.declared.view.Role.TheVariants.{Keeper, Pass}
 use Rattle.blink_live.specs.declared.view.Share.{Share}
 use Rattle.blink_live.specs.declared.view.View.{View}
-use Rattle.blink_live.specs.Changes.{put, after, states_of}
+use Rattle.blink_live.specs.Changes.{put, states_of}
 use Rattle.blink_live.specs.Accounts.{AreAccounts}
 use Rattle.blink_live.specs.Additions.{CountsAdded}
 use Rattle.blink_live.specs.AtomicSteps.{AppendsRecord, appends_record}
 use Rattle.blink_live.specs.Looks.{IsSince}
 use Rattle.blink_live.specs.Reuse.{IsReuseSafe}
-use Rattle.blink_live.specs.Rule.{Appends, IsAppending, ReadsRow, AreNamedBy, Owners, IsPublished, PageWordIs, latch_word, HasRows, HasNumbers, IsShare, IsInRole, IsBoundedWay, Knows, IsTableAt, IsTable, NamesPage}
+use Rattle.blink_live.specs.Rule.{Appends, IsAppending, ReadsRow, AreNamedBy, Owners, IsPublished, PageWordIs, latch_word, HasRows, HasNumbers, IsInRole, IsBoundedWay, Knows, IsTableAt, IsTable, NamesPage}
 use Rattle.blink_live.specs.Views.{IsCommon, MayChange, SeatState, publishes_from, span}
 use Rattle.blink_live.specs.Words.{place_word, word_count, RowBegins, named_row, IsVersion}
 use Rattle.blink_live.proofs.changed.ChangesAreTheMaps.{after-append, states_of-append}
@@ -39,7 +39,7 @@ use Rattle.blink_live.proofs.reuse.ReuseStaysSafe.{hand_stays, reuse_stays, same
 use Rattle.blink_live.proofs.table.PoolStays.{pool_stays}
 use Rattle.blink_live.proofs.table.MapsWithOneChange.{put_here, put_else}
 use Rattle.blink_live.proofs.table.OthersKnowTheSame.{LeavesOthers, RowStays, page_word_still, seat_reads_still}
-use Rattle.blink_live.proofs.table.AccountsStay.{AreBy, accounts_grow}
+use Rattle.blink_live.proofs.table.AccountsStay.{accounts_grow}
 use Rattle.blink_live.proofs.table.StoresKeepTable.{row_stays, IsStored, prime_still, store_keeps}
 use Rattle.blink_live.proofs.table.SparesOfSeats.{spare_still}
 

@@ -4,7 +4,12 @@ use Rattle.std.proofs.lemmas.List.{get_or-take, length-take-le}
 use Rattle.atomic_table.specs.Seated.{TableId}
 use Rattle.blink_rows.specs.{IsRowOf}
 use Rattle.blink_rows.specs.declared.limits.TheConstants.{ROW_WORDS}
+use Rattle.blink_machine.specs.{PlainMachine, done}
 use Rattle.blink_live.specs.declared.live.Live.{Live}
+use Rattle.blink_live.specs.declared.view.Change.{Change}
+use Rattle.blink_live.specs.declared.view.Share.{Share}
+use Rattle.blink_live.specs.declared.view.View.{View}
+use Rattle.blink_live.specs.AtomicSteps.{Decided, PublishesPage, deciding, other}
 use Rattle.blink_live.specs.Seats.{IsPassSeat}
 use Rattle.blink_live.specs.Views.{SeatState, knows_word, stage_word, is_staged}
 use Rattle.blink_live.specs.Words.{BeginWith}
@@ -78,3 +83,33 @@ words_of_row row content count is ends fits =
       all = omega (arith, long, ends);
       filled = λ i few. get_or-take count row i 0 (omega (arith, few, ends)) ∙ is.filled i (omega (arith, few, ends, fits));
     }
+
+-- ---- the row is published
+
+decided_before : (m after : PlainMachine) (v : View) (words : List ℕ) (share : Share) (seen : List Change) → Decided m after (is_staged v words) share seen → Decided m after v share seen
+decided_before m after v stored share seen (deciding none_yet answers) = Decided.deciding none_yet (record {
+  before = answers.before;
+  saw = answers.saw;
+  answers = answers.answers;
+  goes_on = answers.goes_on;
+  keys = answers.keys;
+  changes = answers.changes;
+  own = answers.own;
+})
+decided_before m after v stored share seen (other same same_share) = Decided.other same same_share
+
+-- what the call had stored is of no matter then
+pub published_staged : (number out : ℕ) (m : PlainMachine) (me then : SeatState) (words : List ℕ) → PublishesPage number out m (is_staged me.0 words, me.1) then → PublishesPage number out m me then
+published_staged number out m me then words does = record {
+  way = does.way;
+  share = does.share;
+  seen = does.seen;
+  is = does.is;
+  learns = record { saw = does.learns.saw; heard = does.learns.heard };
+  decided = decided_before m (done m 0) me.0 words does.share does.seen does.decided;
+  next = does.next;
+  uses = does.uses;
+  answers_at_end = does.answers_at_end;
+  knows_own = does.knows_own;
+  ends_with_own = let ends = does.ends_with_own in record { before = ends.before; made = ends.made; learns = record { saw = ends.learns.saw; heard = ends.learns.heard }; own = ends.own; last = ends.last };
+}

@@ -7,7 +7,7 @@ use Rattle.blink_batch.specs.declared.Answer.TheVariants.{Absent, Exists}
 use Rattle.blink_batch.specs.declared.Op.{Op}
 use Rattle.blink_batch.specs.{answer_at, answer_of, key_of, map_at, pointer_of}
 use Rattle.blink_page.specs.{PlainPage, value_at}
-use Rattle.blink_rows.specs.{page_words, row_in}
+use Rattle.blink_rows.specs.{page_words}
 use Rattle.blink_rows.specs.declared.span.Span.{Span}
 use Rattle.blink_machine.specs.declared.machine.Debt.{Debt}
 use Rattle.blink_machine.specs.declared.machine.Job.{Job}

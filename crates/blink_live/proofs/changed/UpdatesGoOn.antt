@@ -22,7 +22,7 @@ use Rattle.blink_live.specs.declared.view.Plan.{Plan}
 use Rattle.blink_live.specs.declared.view.Share.{Share}
 use Rattle.blink_live.specs.declared.view.Stock.{Stock}
 use Rattle.blink_live.specs.declared.view.View.{View}
-use Rattle.blink_live.specs.AtomicSteps.{AnswersInOrder, CanGoOn, Decided, deciding, other, state_after, GoesOn, LoadsPage, LoadsPrime, PublishesFrom}
+use Rattle.blink_live.specs.AtomicSteps.{AppendsRecord, AnswersInOrder, CanGoOn, Decided, deciding, other, state_after, GoesOn, LoadsPage, LoadsPrime, PublishesFrom}
 use Rattle.blink_live.specs.Changes.{changes_made}
 use Rattle.blink_live.specs.Seats.{HasSameNumber, IsFirst, IsPassSeat}
 use Rattle.blink_live.specs.Shelves.{HasSpaceFor, IsShelved, free_in}
@@ -37,7 +37,7 @@ use Rattle.blink_live.proofs.changed.StepsOfUpdates.{Takes, latch_answers, unlat
 
 -- ---- what a step makes of the operation
 
-same_call_trans : (u v w : View) → SameBesideCall u v → SameBesideCall v w → SameBesideCall u w
+pub same_call_trans : (u v w : View) → SameBesideCall u v → SameBesideCall v w → SameBesideCall u w
 same_call_trans u v w first second =
     second ∙ ap (λ (x : View). record x { operation = w.operation; descent_bound = w.descent_bound; reads = w.reads; behind = w.behind; appends = w.appends; seen = w.seen; share = w.share; call = w.call; stock = w.stock }) first
 
@@ -361,6 +361,18 @@ module _ {live : Live} {op : Op} {first seat : Seat ℕ View} {m : PlainMachine}
         let left = is.left.pages in
         let fewer = fewer_rows lent (done m 0) (free_in then.shelf) (omega (arith, writes, primes)) uses in
         after_write (write_page number) (rows_after lent seat.me.0.call.rows) seat.me.0.call.pages stock 0 then (λ common some. (refl, subst HasAny same_spare some)) is_done does (fewer.0, fewer.1, fewer.2) (fewer.3, space _ (less_space room.shelf _ _ (omega (arith, writes, primes)) is.left.space)) (refl, omega arith) (omega (arith, pages, left)) (same_rows, same_pages ∙ is.room_is.1) same_latch shelved
+
+    -- which appends a record, and uses no row
+    pub after_append : (number : ℕ) → after ≡ done m 0 → AppendsRecord number m seat.me next.me → IsUnderWay live op first next after room
+    after_append number is_done does =
+        let pages = does.uses.numbers in
+        let writes = does.uses.page_writes in
+        let primes = does.uses.prime_writes in
+        let left = is.left.pages in
+        let rows = is.left.rows in
+        after_write (write_page number) seat.me.0.call.rows seat.me.0.call.pages seat.me.0.stock 0 room (λ common some. (refl, some)) is_done does
+        (refl, omega arith, is.left.in_order) (omega (arith, rows, writes, primes), less_space room.shelf _ _ (omega (arith, writes, primes)) is.left.space) (refl, omega arith) (omega (arith, pages, left)) is.room_is refl
+        (shelved_so room.shelf seat.me.0 next.me.0 (ap (λ (x : SeatState). x.0.plan) does.is) (ap (λ (x : SeatState). x.0.stock) does.is) is.shelved)
 
     pub after_write_prime : (lent : Bool) (stock : Stock) → stock.spare ≡ seat.me.0.stock.spare → (then : Room) → after ≡ done m 0 → PublishesFrom write_prime (rows_after lent seat.me.0.call.rows) seat.me.0.call.pages stock m (done m 0) seat.me next.me
         → then.rows ≡ rows_after lent seat.me.0.call.rows → then.pages ≡ room.pages → then.latch_number ≡ room.latch_number → IsShelved then.shelf next.me.0 → WritesFree lent (free_in room.shelf) (free_in then.shelf) → ((count : ℕ) → HasSpaceFor room.shelf (suc count) → HasSpaceFor then.shelf count) → IsUnderWay live op first next after then

@@ -1,5 +1,5 @@
 -- A word that is stored behind the fixed words of the row of a page whose latch the seat holds is no step of the tree, and keeps the rule.
-use Rattle.std.proofs.Common.{append_assoc, Option, ◌≡◌, ◌≢◌, ℕ, suc, ◌+◌, ◌*◌, ◌<◌, ◌≤◌, Some, None, List, [], ◌∷◌, ◌++◌, length, set, refl, sym, ap, ◌∙◌, subst, length-append, get_or-set_same, get_or-set_other, arith}
+use Rattle.std.proofs.Common.{append_assoc, Option, ◌≡◌, ◌≢◌, ℕ, suc, ◌+◌, ◌*◌, ◌<◌, ◌≤◌, Some, List, [], ◌∷◌, ◌++◌, length, set, refl, sym, ap, ◌∙◌, subst, length-append, get_or-set_same, get_or-set_other, arith}
 use Rattle.std.specs.Prelude.{slice_index}
 use mathlib.Core.Option.{some, none}
 use mathlib.Core.Logic.{dite}

@@ -16,8 +16,8 @@ use Rattle.blink_machine.specs.declared.machine.State.TheVariants.{Going, Ended}
 use Rattle.blink_machine.specs.{IsReadable, IsTopLeftmost, PlainMachine, SeesOnItsWay, SeesPage, SeesPrime, TellsWay, at_state, fresh, goes_on, key_of_job, level_read, target}
 use Rattle.blink_live.specs.declared.view.Change.{Change}
 use Rattle.blink_live.specs.Seats.{BeginsAt, HasRead, IsAtPage, IsDescending, IsGoing, ReadsWay, ReadsLeaf, TellsWayFor}
-use Rattle.blink_live.specs.Views.{SeatState, for_call, known_of}
-use Rattle.blink_live.proofs.found.OperationsOnTheirWay.{goes_down, same_reading}
+use Rattle.blink_live.specs.Views.{SameBesideReads, SeatState, for_call, known_of}
+use Rattle.blink_live.proofs.found.OperationsOnTheirWay.{goes_down}
 use Rattle.blink_live.proofs.found.VersionsAreRead.{version_loaded}
 
 -- ---- the root
@@ -47,7 +47,7 @@ module _ (op : Op) (number level : ℕ) (me then : SeatState) (begun : BeginsAt 
   pub read_at_root : HasRead op (for_call me.0 op, me.1) then begun.machine
   read_at_root =
       let begins = begun.begins in record {
-        same = (same_reading (for_call me.0 op) begun.machine begins.way begun.row _ [] begins.seen then.0 (ap (λ (x : SeatState). x.0) begins.is), ap (λ (x : SeatState). x.1) begins.is);
+        same = (subst (SameBesideReads (for_call me.0 op)) (sym (ap (λ (x : SeatState). x.0) begins.is)) refl, ap (λ (x : SeatState). x.1) begins.is);
         saw = subst (λ (seen : List Change). IsPrefix me.0.seen seen) (sym (ap (λ (x : SeatState). x.0.seen) begins.is)) begins.learns.saw;
         knows_own = begins.knows_own;
         operation = ap (λ (x : SeatState). x.0.operation) begins.is;

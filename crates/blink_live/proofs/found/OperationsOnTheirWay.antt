@@ -6,7 +6,7 @@ use Rattle.blink_batch.specs.{FitsWords, answer_at, key_of, pointer_of}
 use Rattle.blink_batch.specs.declared.Op.{Op}
 use Rattle.blink_batch.specs.declared.Op.TheVariants.{Find}
 use Rattle.blink_page.specs.{PlainPage}
-use Rattle.blink_rows.specs.{PlainCounts, row_in}
+use Rattle.blink_rows.specs.{PlainCounts}
 use Rattle.blink_machine.specs.declared.machine.State.TheVariants.{Going}
 use Rattle.blink_machine.specs.{PlainMachine, NeedsPage, need_at, SeesPrime, SeesPage, SeesOnItsWay}
 use Rattle.blink_machine.proofs.Offered.{goes_on_if_needed}

@@ -9,7 +9,7 @@ use lib.ListN.{get_elem?}
 use Rattle.atomic_table.specs.Table.{State}
 use Rattle.blink_batch.specs.{pointer_of}
 use Rattle.blink_page.specs.{PlainPage}
-use Rattle.blink_rows.specs.{page_words, row_in}
+use Rattle.blink_rows.specs.{row_in}
 use Rattle.blink_rows.specs.declared.limits.TheConstants.{ROW_WORDS}
 use Rattle.blink_rows.specs.declared.span.Span.{Span}
 use Rattle.blink_machine.specs.{PlainMachine, descent_bound}

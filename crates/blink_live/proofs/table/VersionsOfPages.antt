@@ -1,5 +1,5 @@
 -- What a page has in common with the base in its row.
-use Rattle.std.proofs.Common.{◌≡◌, ℕ, ◌+◌, ◌*◌, ◌<◌, ◌≤◌, List, [], ◌∷◌, ◌++◌, length, refl, sym, ap, ◌∙◌, subst, arith}
+use Rattle.std.proofs.Common.{◌≡◌, ℕ, ◌+◌, ◌*◌, ◌<◌, ◌≤◌, List, [], ◌∷◌, ◌++◌, length, length-append, refl, sym, ap, ◌∙◌, subst, arith}
 use Rattle.blink_page.specs.{IsLawfulPage, PlainPage}
 use Rattle.blink_page.specs.declared.limits.TheConstants.{MAX_FAN}
 use Rattle.blink_rows.specs.{Fits, IsLogged, counted, page_after, page_with, page_word, record_words, records_in}
@@ -80,6 +80,13 @@ module _ {word : ℕ} {base page : PlainPage} {behind : List ℕ} (is : IsVersio
 
   pub same_row : row_in next_word ≡ row_in word
   same_row = told_then.0
+
+  pub counts_one_more : (records_in word).count < (records_in next_word).count
+  counts_one_more =
+      let many = count_is in
+      let told : (records_in next_word).count ≡ length (is.records ++ r ∷ []) = ap (λ (records : Records). records.count) told_then.1 in
+      let longer : length (is.records ++ r ∷ []) ≡ length is.records + 1 = length-append is.records (r ∷ []) in
+      omega (arith, many, told, longer)
 
   -- and with the record's words behind the others the row has the page after it
   pub version_more : IsVersion next_word base (behind ++ record_words r) (page_after page r)

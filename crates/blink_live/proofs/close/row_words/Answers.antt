@@ -2,6 +2,7 @@ use Rattle.std.proofs.Common.{◌≡◌, ◌≢◌, ℕ, ◌+◌, ◌<◌, ◌�
 use Rattle.std.proofs.lemmas.Bool.{cases_lt}
 use Rattle.std.proofs.lemmas.List.{get_or-replicate, get_or_past, length-replicate}
 use Rattle.std.specs.Mem.Slots.{slots_items}
+use Rattle.blink_rows.specs.declared.limits.TheConstants.{ROW_WORDS}
 use Rattle.blink_live.proofs.gathered.RowIsOfKeptPage.{word_there}
 use Rattle.blink_live.proofs.close.row_words.Goals as goal
 
@@ -11,9 +12,9 @@ zeros n k = ⊎_elim (λ (less : k < n). get_or-replicate n k 0 0 less) (λ (pas
 
 pub loop-i-init : goal.loop-i-init
 loop-i-init c = record {
-  width = length-replicate {A = ℕ} 70 0;
+  width = length-replicate {A = ℕ} ROW_WORDS 0;
   read = λ k less. absurd (omega (arith, less));
-  rest = λ k past. zeros 70 k;
+  rest = λ k past. zeros ROW_WORDS k;
 }
 
 pub loop-i-preserved : goal.loop-i-preserved

@@ -1,4 +1,4 @@
-use Rattle.std.proofs.Common.{◌≡◌, ℕ, suc, ◌+◌, ◌-◌, ◌<◌, ◌≤◌, Option, List, length, get_or, drop, refl, sym, ap, subst, arith}
+use Rattle.std.proofs.Common.{◌≡◌, ℕ, suc, ◌+◌, ◌-◌, ◌<◌, ◌≤◌, List, length, get_or, drop, refl, ap, subst, arith}
 use Rattle.std.proofs.lemmas.List.{length-reverse}
 use Rattle.blink_page.specs.{IsLawfulPage, PlainPage, least_above, value_at}
 use Rattle.blink_page.specs.declared.limits.TheConstants.{MAX_FAN}

@@ -2,7 +2,7 @@ use Rattle.std.proofs.Common.{Some, None, refl, sym, subst}
 use Rattle.blink_batch.specs.declared.Answer.{Answer}
 use Rattle.blink_machine.specs.declared.machine.Next.TheVariants.{MoveRight}
 use Rattle.blink_machine.specs.declared.machine.State.TheVariants.{Ended, Leave}
-use Rattle.blink_live.specs.Straight.{HasMet, IsToWrite, at_leaf, leaving}
+use Rattle.blink_live.specs.Straight.{HasMet, at_leaf, leaving}
 use Rattle.blink_live.specs.Updating.{IsUnderWay}
 use Rattle.blink_live.proofs.changed.UpdatesGoOn as on
 use Rattle.blink_live.proofs.live.Live.change_leaf.Goals as goal
@@ -32,8 +32,7 @@ returns-in-Write c = λ first is.
     let leaf = c.args.descent.now.leaf in
     let held = c.latch_leaf.ensures.got c.if-not-latch_leaf.false first is in
     let met = subst (HasMet live c.args.op c.args.descent.now first c.read_leaf.new.seat c.args.room.now) c.in-Write.is (c.read_leaf.ensures first held) in
-    let spliced = subst (IsToWrite live c.args.op c.args.descent.now first c.read_leaf.new.seat c.args.room.now c.in-Write.spot) (sym c.splice_of-splice.ensures) met.writes in
-    let written = c.put_leaf.ensures first spliced in
+    let written = c.write_record.ensures first met in
     let goes = c.free_latch-in-Write.ensures.gone (leaving live.fan c.args.op c.args.descent.now c.in-Write.spot.kept) (on.is_its_operation written (λ ends. absurd (cc))) refl in
-    subst (λ (a : Answer). IsUnderWay live c.args.op first c.free_latch-in-Write.new.seat (at_leaf live.fan c.args.op c.args.descent.now Ended (Some a)) c.put_leaf.new.room) (sym c.answer-in-Write.ensures)
+    subst (λ (a : Answer). IsUnderWay live c.args.op first c.free_latch-in-Write.new.seat (at_leaf live.fan c.args.op c.args.descent.now Ended (Some a)) c.write_record.new.room) (sym c.answer-in-Write.ensures)
     (on.after_unlatch written c.free_latch-in-Write.ensures.same leaf refl refl goes)

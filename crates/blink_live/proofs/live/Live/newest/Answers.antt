@@ -1,6 +1,7 @@
 use Rattle.std.proofs.Common.{◌≡◌, ℕ, suc, ◌+◌, ◌*◌, ◌-◌, ◌<◌, ◌≤◌, List, sym, ap, ◌∙◌, subst, arith}
 use Rattle.blink_page.specs.{PlainPage, value_at}
 use Rattle.blink_rows.specs.{pointer_after}
+use Rattle.blink_rows.specs.declared.limits.TheConstants.{ROW_WORDS}
 use Rattle.blink_rows.specs.declared.log.Record.{Record}
 use Rattle.blink_rows.specs.declared.naming.Records.{Records}
 use Rattle.blink_rows.proofs.Offered.{HasNext, IsLeft, next_left, none_left, passes_next}
@@ -10,7 +11,7 @@ use Rattle.blink_live.proofs.found.RecordsInRow.{IsItsRecord, all_inside, base_c
 use Rattle.blink_live.proofs.live.Live.newest.Goals as goal
 
 -- the words of the next record stand in the row
-place_inside : (loaded_base from left count base many : ℕ) → loaded_base ≡ base → count ≡ many → from ≡ left - 1 → 0 < left → left ≤ count → 6 + 2 * (base + many) ≤ 70 → 6 + 2 * (loaded_base + from) + 1 < 70
+place_inside : (loaded_base from left count base many : ℕ) → loaded_base ≡ base → count ≡ many → from ≡ left - 1 → 0 < left → left ≤ count → 6 + 2 * (base + many) ≤ ROW_WORDS → 6 + 2 * (loaded_base + from) + 1 < ROW_WORDS
 place_inside loaded_base from left count base many base_is count_is from_is some few room = omega (arith, base_is, count_is, from_is, some, few, room)
 
 pub overflow_add-at : goal.overflow_add-at

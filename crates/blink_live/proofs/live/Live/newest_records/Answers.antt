@@ -1,6 +1,7 @@
 use Rattle.std.proofs.Common.{◌≡◌, ℕ, ◌+◌, ◌*◌, ◌-◌, ◌<◌, ◌≤◌, length, refl, sym, ap, ◌∙◌, subst, arith}
 use Rattle.blink_page.specs.{PlainPage}
 use Rattle.blink_rows.specs.{records_in}
+use Rattle.blink_rows.specs.declared.limits.TheConstants.{ROW_WORDS}
 use Rattle.blink_rows.specs.declared.log.Record.{Record}
 use Rattle.blink_rows.specs.declared.naming.Records.{Records}
 use Rattle.blink_live.specs.Merging.{with_older}
@@ -12,7 +13,7 @@ use Rattle.blink_live.proofs.live.Live.newest_records.Goals as goal
 
 -- the words of the record before those that were taken stand in the row
 place_inside : {me : SeatState} {word : ℕ} {page : PlainPage} (is : ReadsVersion me word page) (told : Records) (base from left taken : ℕ) → told ≡ records_in word → base ≡ length is.base.entries → from ≡ left - 1 → 0 < left → taken + left ≤ told.count
-    → (6 + 2 * (base + from) + 1 < 70) × (left - 1 < length is.version.records) × (left - 1 + 1 ≡ left) × (taken < 12)
+    → (6 + 2 * (base + from) + 1 < ROW_WORDS) × (left - 1 < length is.version.records) × (left - 1 + 1 ≡ left) × (taken < 12)
 place_inside is told base from left taken says base_is from_is some few =
     let many : told.count ≡ length is.version.records = ap (λ (r : Records). r.count) says ∙ sym (count_is is) in
     let room = all_inside is in

@@ -3,6 +3,7 @@ use Rattle.std.proofs.lemmas.List.{take_all}
 use Rattle.blink_page.specs.{PlainPage}
 use Rattle.blink_page.specs.declared.limits.TheConstants.{MAX_FAN}
 use Rattle.blink_rows.specs.{Fits, page_after, page_with}
+use Rattle.blink_rows.specs.declared.limits.TheConstants.{ROW_WORDS}
 use Rattle.blink_rows.specs.declared.log.Record.{Record}
 use Rattle.blink_rows.specs.declared.naming.Records.{Records}
 use Rattle.blink_live.proofs.found.RecordsInRow.{all_inside, count_is, counted_there, fits_there, key_loaded, one_applied, pointer_loaded, record_at, same_record}
@@ -10,7 +11,7 @@ use Rattle.blink_live.proofs.found.VersionsAreRead.{base_in}
 use Rattle.blink_live.proofs.live.Live.page_in_row.Goals as goal
 
 -- the words of a record stand in the row
-place_inside : (loaded_base from older count base many : ℕ) → loaded_base ≡ base → count ≡ many → from ≡ older → older < count → 6 + 2 * (base + many) ≤ 70 → 6 + 2 * (loaded_base + from) + 1 < 70
+place_inside : (loaded_base from older count base many : ℕ) → loaded_base ≡ base → count ≡ many → from ≡ older → older < count → 6 + 2 * (base + many) ≤ ROW_WORDS → 6 + 2 * (loaded_base + from) + 1 < ROW_WORDS
 place_inside loaded_base from older count base many base_is count_is from_is one room = omega (arith, base_is, count_is, from_is, one, room)
 
 pub load_word-key-requires-clause-place : goal.load_word-key-requires-clause-place
