@@ -209,7 +209,7 @@ impl Live {
         let count = self.load_word(seat, start, COUNT) as usize;
         let first = self.first_place(seat, start, count, key, hint);
         for place in first..count {
-            let at = HEAD_WORDS + 2 * place;
+            let at = HEAD_WORDS + ENTRY_WORDS * place;
             let found = self.load_word(seat, start, at);
             if key <= found {
                 return Some((found, self.load_word(seat, start, at + 1)));
@@ -241,7 +241,7 @@ impl Live {
         if hint == 0 || hint > count {
             return 0;
         }
-        if self.load_word(seat, start, HEAD_WORDS + 2 * (hint - 1)) < key {
+        if self.load_word(seat, start, HEAD_WORDS + ENTRY_WORDS * (hint - 1)) < key {
             return hint;
         }
         0
@@ -353,7 +353,7 @@ impl Live {
         let count = self.load_word(seat, start, COUNT) as usize;
         let mut items = ArrayVec::new();
         for place in 0..count {
-            let at = HEAD_WORDS + 2 * place;
+            let at = HEAD_WORDS + ENTRY_WORDS * place;
             let key = self.load_word(seat, start, at);
             items.push((key, self.load_word(seat, start, at + 1)));
         }

@@ -27,7 +27,7 @@ use crate::view::View;
 use atomic_table::Seat;
 use blink_batch::Entry;
 use blink_page::MAX_FAN;
-use blink_rows::layout::{COUNT, HIGH_KEY, RIGHT_LINK};
+use blink_rows::layout::{COUNT, ENTRY_WORDS, HIGH_KEY, RIGHT_LINK};
 use blink_rows::{HEAD_WORDS, MAX_RECORDS, Record, records_in, row_in};
 
 /// How far a scan came.
@@ -279,7 +279,7 @@ impl Live {
         let count = self.load_word(seat, start, COUNT) as usize;
         let mut filled = 0;
         for place in 0..count {
-            let at = HEAD_WORDS + 2 * place;
+            let at = HEAD_WORDS + ENTRY_WORDS * place;
             let key = self.load_word(seat, start, at);
             if key > hi {
                 return Scanned { filled, next: None };

@@ -7,15 +7,16 @@
 //! left are of a later one.
 ghost use Rattle.std.specs.Prelude.{◌≡◌, ◌+◌, ◌<◌, ◌≤◌, ℕ, List, Option, Some, IfNone, IfSome, length, take, drop, reverse};
 ghost use Rattle.blink_batch.specs.declared.Entry.{Entry};
-ghost use Rattle.blink_page.specs.{least_above};
+ghost use Rattle.blink_page.specs.{PlainPage, least_above};
 ghost use Rattle.blink_rows.specs.{row_in};
+ghost use Rattle.blink_rows.specs.declared.limits.TheConstants.{ROW_WORDS};
 ghost use Rattle.blink_live.specs.Finding.{IsIdle};
 ghost use Rattle.blink_live.specs.Handles.{IsPassOf, IsSameBesideSeen, KnowsItsKeys, keys_of, opening_of, seen_of, share_of};
 ghost use Rattle.blink_live.specs.Scanning.{IsCopied, IsFilled, SaysOfKeys, StoppedFull};
 ghost use Rattle.blink_live.specs.ScanningBack.{HasScannedBack, IsReportBack, ReportBackLaw, start_of};
-ghost use Rattle.blink_live.specs.Seats.{HasLesser, HasSameNumber, IsPassSeat, IsSameSeat, ReadsLeaf};
+ghost use Rattle.blink_live.specs.Seats.{HasLesser, HasSameNumber, IsPassSeat, IsSameSeat, ReadsLeaf, ReadsPage};
 ghost use Rattle.blink_live.specs.Views.{known_of};
-ghost use Rattle.blink_live.specs.Words.{IsRowNumber};
+ghost use Rattle.blink_live.specs.Words.{IsRowNumber, row_start, word_count};
 
 use crate::live::{Live, Pass};
 use crate::scan::Scanned;
@@ -23,6 +24,8 @@ use crate::view::View;
 use atomic_table::Seat;
 use blink_batch::Entry;
 use blink_page::Page;
+use blink_rows::layout::{COUNT, ENTRY_WORDS, FLOOR, HAS_FLOOR};
+use blink_rows::{HEAD_WORDS, records_in, row_in};
 
 impl Live {
     /// Reports the entries whose keys are from `lo` to `hi`, both included, in descending order, whatever other passes do at the
@@ -116,8 +119,70 @@ impl Live {
             × IsCopied (known_of seat.old.me.0) (start_of lo result.next) (from + 1) entries }
         ensures further { IfSome result.next (λ next. (lo ≤ next) × (next < from)) }
     {
+        if records_in(word).count == 0 {
+            return self.copy_row_back(seat, row_in(word), lo, from, into);
+        }
         let page = self.page_in_row(seat, word);
         copy_page_back(&page, lo, from, into)
+    }
+
+    // The same of a leaf that has no records.
+    fn copy_row_back(
+        &self,
+        seat: &mut Seat<u8, View>,
+        row: u64,
+        lo: u64,
+        from: u64,
+        into: &mut [Entry],
+    ) -> Scanned
+        requires seat { IsPassSeat self.now seat.old.table_id seat.old.me }
+        requires row { IsRowNumber self.now.counts row }
+        requires leaf { (leaf : PlainPage) × ReadsPage seat.old.me row leaf
+            × HasLesser (known_of seat.old.me.0) from leaf }
+        requires range { lo ≤ from }
+        requires some_place { 1 ≤ length into.old }
+        ensures same { IsSameSeat seat.old seat.new }
+        ensures copied { (entries : List Entry) × IsFilled (reverse entries) into.old into.new
+            × (result.filled ≡ length entries)
+            × IsCopied (known_of seat.old.me.0) (start_of lo result.next) (from + 1) entries }
+        ensures further { IfSome result.next (λ next. (lo ≤ next) × (next < from)) }
+    {
+        let start = self.row_place(row);
+        let count = self.load_word(seat, start, COUNT) as usize;
+        let mut filled = 0;
+        for place in (0..count).rev() {
+            let at = HEAD_WORDS + ENTRY_WORDS * place;
+            let key = self.load_word(seat, start, at);
+            if key < lo {
+                return Scanned { filled, next: None };
+            }
+            if key <= from {
+                if filled == into.len() {
+                    let next = Some(key);
+                    return Scanned { filled, next };
+                }
+                let pointer = self.load_word(seat, start, at + 1);
+                into[filled] = Entry { key, pointer };
+                filled += 1;
+            }
+        }
+        let next = not_below(lo, self.load_floor(seat, start));
+        Scanned { filled, next }
+    }
+
+    // Loads the floor of the page whose row begins at `start`.
+    fn load_floor(&self, seat: &mut Seat<u8, View>, start: usize) -> Option<u64>
+        requires seat { IsPassSeat self.now seat.old.table_id seat.old.me }
+        requires inside { start + ROW_WORDS ≤ word_count self.now.counts }
+        ensures same { IsSameSeat seat.old seat.new }
+        ensures floor { (row : ℕ) (page : PlainPage) → start ≡ row_start self.now.counts row
+            → ReadsPage seat.old.me row page → result ≡ page.floor }
+    {
+        let has_floor = self.load_word(seat, start, HAS_FLOOR);
+        if has_floor == 0 {
+            return None;
+        }
+        Some(self.load_word(seat, start, FLOOR))
     }
 }
 
