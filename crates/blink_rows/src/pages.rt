@@ -4,7 +4,7 @@ ghost use Rattle.blink_page.specs.{IsPageNumber, ValuesWithin};
 ghost use Rattle.blink_rows.specs.Row.{flat, flag, IsPageRow, IsRowOfNoPage};
 
 use crate::lawful::is_lawful;
-use crate::layout::{COUNT, FLOOR, HAS_FLOOR, HIGH_KEY, LEVEL, RIGHT_LINK};
+use crate::layout::{COUNT, ENTRY_WORDS, FLOOR, HAS_FLOOR, HIGH_KEY, LEVEL, RIGHT_LINK};
 use crate::limits::{HEAD_WORDS, ROW_WORDS};
 use crate::words::{content, page_number, row_of};
 use arrayvec::ArrayVec;
@@ -23,7 +23,7 @@ pub fn page_row(page: &Page) -> [u64; ROW_WORDS]
         page.items.len() as u64,
     ]);
     for (i, &(key, value)) in page.items.iter().enumerate() {
-        let at = HEAD_WORDS + 2 * i;
+        let at = HEAD_WORDS + ENTRY_WORDS * i;
         words[at] = key;
         words[at + 1] = value;
     }
