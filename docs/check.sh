@@ -1,7 +1,7 @@
 #!/bin/sh
 # Looks whether the documents say what is there: links and their anchors, paths, must-fail edits, names in backticks, and pictures; that EDITS.md
-# lists each edit, BELIEVE.md quotes the sources, and PROMISES.md cites clauses that there are; that no old word stands in them; and that
-# each is short enough: README.md by lines, other documents by words of prose, and tables by the words of a cell. It prints a line for each finding and exits 1, or prints nothing and exits 0.
+# lists each edit, BELIEVE.md quotes the sources, and PROMISES.md cites clauses that there are; that no old word stands in them; that crates name of
+# one another's specs what their lists pass on; and that each is short enough: README.md by lines, other documents by words of prose, and tables by the words of a cell. It prints a line for each finding and exits 1, or prints nothing and exits 0.
 # A new old word goes to `old`.
 LC_ALL=C
 export LC_ALL
@@ -187,6 +187,26 @@ awk -v clauses="$work/clauses" '
 # Codes: FORMATS.md has a row with the number and the name of each code of the header.
 sed -n 's/^ *\(BLINK_[A-Z_]*\) = \([1-9][0-9]*\),* .*/\2 \1/p' include/blink.h | sed '1,/ BLINK_REPLACED/d' | while read -r number name; do
     grep -q "^$number | .*\`$name\`" docs/FORMATS.md || echo "docs/FORMATS.md: no row for code $number, $name"
+done >>"$work/found"
+
+# The wall of a crate: no other crate names a file of specs/ that stands below "no crate above names" in Lib.antt, and some crate each that stands
+# above, but for those whose words are named by their file.
+for lib in crates/*/specs/Lib.antt; do
+    crate=$(echo "$lib" | cut -d/ -f2)
+    grep -rhoE --include='*.antt' --include='*.rt' "Rattle\.$crate\.specs\.[A-Z][A-Za-z]*" $(ls -d crates/*/src crates/*/specs crates/*/proofs | grep -v "^crates/$crate/") |
+        sed 's/.*\.//' | sort -u >"$work/named"
+    sed -n '/no crate above names$/,$s/^pub mod //p' "$lib" | grep -Fx -f "$work/named" |
+        sed "s|.*|$lib: another crate names & by its file: name its words by the list|" || :
+    sed '/no crate above names$/,$d' "$lib" | sed -n 's/^pub mod //p' | grep -Fxv -f "$work/named" | while read -r it; do
+        grep -q "^-- by their file.* $it\.{" "$lib" || echo "$lib: no crate above names $it: it stands below"
+    done
+done >>"$work/found"
+
+# Rooms: C, Rust and Python count the same for a session, page numbers for a draw and for an insertion's 22.
+drawn=$(sed -n 's/^pub(crate) const PAGE_CHUNK: u64 = \([0-9]*\);/\1/p' crates/blink_map/src/waiting.rt)
+for it in include/blink.h rust/blink/src/map.rs python/blink.py; do
+    counted=$(sed -n 's/.* + \([0-9]*\) \* .*sessions.*/\1/p' "$it" | sort -u | paste -s -d ' ' -)
+    [ "$counted" = "300 $((drawn + 22))" ] || echo "$it: a room counts '$counted' for a session, not 300 rows and $((drawn + 22)) page numbers"
 done >>"$work/found"
 
 # Pictures: the frames are those of the tour, and the crates those of crates.txt. Figures that are quoted of the tables are those of today's. The

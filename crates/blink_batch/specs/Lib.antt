@@ -26,7 +26,7 @@ pub use Rattle.blink_batch.specs.Codes.{code_of_cut_error, code_of_record_error,
 pub use Rattle.blink_operation.specs.Operation.{map_at}
 pub use Rattle.blink_batch.specs.Order.{is_worker}
 pub use Rattle.blink_operation.specs.Text.{line_of}
--- ---- the files
+-- ---- files that no crate above names
 pub mod Cut
 pub mod Ranges
 pub mod Order

@@ -2,6 +2,7 @@
 -- one: its callers are C and Rust programs.
 
 -- what each handle owns, and what it is once what it lent comes back
+-- ---- files that no crate above names
 pub mod IndexOwned
 pub mod IndexLending
 pub mod TableOwned
@@ -14,5 +15,5 @@ pub mod SessionOwned
 pub mod SessionLending
 pub mod ReaderOwned
 pub mod ReaderLending
--- what an export makes of a session or a pass by which an operation runs or begins
 pub mod Changing
+-- what an export makes of a session or a pass by which an operation runs or begins

@@ -1,7 +1,7 @@
 //! The export that carries operations out on an index in place, up to the first that is refused.
 ghost use Rattle.std.specs.Prelude.{◌≡◌, length};
 ghost use Rattle.blink_owners.specs.Codes.{TellsWhy, code_of};
-ghost use Rattle.blink_owners.specs.Edits.{HasApplied, IsApplyRefusal};
+ghost use Rattle.blink_owners.specs.{HasApplied, IsApplyRefusal};
 
 use crate::index_handle::IndexHandle;
 use blink_owners::apply::apply;

@@ -1,7 +1,7 @@
 //! The export that runs a batch over an index by one thread, in the order of its operations.
 ghost use Rattle.std.specs.Prelude.{◌≡◌, ◌≢◌, length};
 ghost use Rattle.blink_owners.specs.Codes.{TellsWhy, code_of};
-ghost use Rattle.blink_owners.specs.Runs.{HasRun, IsRunRefusal};
+ghost use Rattle.blink_owners.specs.{HasRun, IsRunRefusal};
 
 use crate::index_handle::IndexHandle;
 use blink_owners::batch::run;

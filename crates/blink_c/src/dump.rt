@@ -2,7 +2,7 @@
 ghost use Rattle.std.specs.Prelude.{◌≡◌, ◌≢◌, length};
 ghost use Rattle.blink_index.specs.{text_of_store};
 ghost use Rattle.blink_owners.specs.Codes.{code_of};
-ghost use Rattle.blink_owners.specs.Filled.{put_if_fits};
+ghost use Rattle.blink_owners.specs.{put_if_fits};
 
 use crate::index_handle::IndexHandle;
 use blink_owners::reads;

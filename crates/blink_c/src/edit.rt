@@ -5,8 +5,7 @@ ghost use Rattle.blink_batch.specs.declared.Op.TheVariants.{Delete, DeleteExact,
 ghost use Rattle.blink_index.specs.{IsInOrder, NeedsPages, first_of, is_above, is_below, is_from, is_up_to, last_of, map_of};
 ghost use Rattle.blink_page.specs.{ExceedsPageLimit};
 ghost use Rattle.blink_owners.specs.Codes.{code_of};
-ghost use Rattle.blink_owners.specs.Edits.{HasEdited, TellsEditFault, entry_or};
-ghost use Rattle.blink_owners.specs.Runs.{HasPagesFor};
+ghost use Rattle.blink_owners.specs.{HasEdited, HasPagesFor, TellsEditFault, entry_or};
 
 use crate::index_handle::IndexHandle;
 use blink_index::EditError;

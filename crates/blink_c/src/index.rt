@@ -5,7 +5,7 @@ ghost use Rattle.blink_index.specs.{map_of};
 ghost use Rattle.blink_page.specs.{IsBadFan, IsPageNumber};
 ghost use Rattle.blink_store.specs.{new_store};
 ghost use Rattle.blink_owners.specs.Codes.{TellsNewFault, code_of};
-ghost use Rattle.blink_owners.specs.Found.{found_answer, pointer_or};
+ghost use Rattle.blink_owners.specs.{found_answer, pointer_or};
 
 use crate::index_handle::IndexHandle;
 use crate::index_slot::IndexSlot;

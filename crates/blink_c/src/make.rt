@@ -2,8 +2,7 @@
 ghost use Rattle.std.specs.Prelude.{◌≡◌, ◌≢◌, None, IsSome, IfSome, length};
 ghost use Rattle.blink_index.specs.{IsInOrder, NeedsPages, map_of};
 ghost use Rattle.blink_owners.specs.Codes.{TellsWhy, code_of};
-ghost use Rattle.blink_owners.specs.Runs.{HasEntriesOf, HasPagesOf, IsMakeRefusal};
-ghost use Rattle.blink_owners.specs.Sorted.{TellsSortedFault};
+ghost use Rattle.blink_owners.specs.{HasEntriesOf, HasPagesOf, IsMakeRefusal, TellsSortedFault};
 
 use crate::index::fill;
 use crate::index_slot::IndexSlot;

@@ -2,7 +2,7 @@
 ghost use Rattle.std.specs.Prelude.{◌≡◌, ◌≢◌, ◌↔◌, ◌⊎◌, None, IfSome, IsSome, length};
 ghost use Rattle.blink_index.specs.{map_of};
 ghost use Rattle.blink_live.specs.{IsNumberedInOrder};
-ghost use Rattle.blink_owners.specs.Maps.{CanClose, HasBadSessions, IsClosedMap, IsNewMap, IsOwnMap, IsOwnerOfSame, IsTooLargeMap, Joins, fan_in, map_in};
+ghost use Rattle.blink_owners.specs.{CanClose, HasBadSessions, IsClosedMap, IsNewMap, IsOwnMap, IsOwnerOfSame, IsTooLargeMap, Joins, fan_in, map_in};
 ghost use Rattle.blink_owners.specs.Sessions.{IsOwnSession};
 
 use crate::index_handle::IndexHandle;

@@ -4,10 +4,7 @@ ghost use Rattle.blink_batch.specs.{pointer_of};
 ghost use Rattle.blink_index.specs.{first_of, is_above, is_below, is_from, is_up_to, is_within, last_of, map_of, text_of_store};
 ghost use Rattle.blink_page.specs.{IsPageNumber};
 ghost use Rattle.blink_owners.specs.Codes.{code_of};
-ghost use Rattle.blink_owners.specs.Edits.{entry_or};
-ghost use Rattle.blink_owners.specs.Filled.{overlaid, put_if_fits};
-ghost use Rattle.blink_owners.specs.Found.{found_answer, pointer_or};
-ghost use Rattle.blink_owners.specs.Readers.{index_at, index_in};
+ghost use Rattle.blink_owners.specs.{entry_or, found_answer, index_at, index_in, overlaid, pointer_or, put_if_fits};
 
 use crate::index_slot::IndexSlot;
 use crate::reader_handle::ReaderHandle;

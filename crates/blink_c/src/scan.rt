@@ -1,7 +1,7 @@
 //! The exports that give entries in the order of their keys or from the greatest key down, and that count them.
 ghost use Rattle.std.specs.Prelude.{◌≡◌, filter, length, min, reverse, take};
 ghost use Rattle.blink_index.specs.{is_from, is_up_to, is_within, map_of};
-ghost use Rattle.blink_owners.specs.Filled.{overlaid};
+ghost use Rattle.blink_owners.specs.{overlaid};
 
 use crate::index_handle::IndexHandle;
 use blink_owners::raw::RawEntry;

@@ -5,7 +5,7 @@ ghost use Rattle.blink_live.specs.{IsMerge, IsNumberedInOrder, IsTooLarge, count
 ghost use Rattle.blink_owners.specs.Codes.{TellsWhy};
 ghost use Rattle.blink_owners.specs.Passes.{IsOwn, table_of};
 ghost use Rattle.blink_owners.specs.TableCodes.{code_of, code_of_taken};
-ghost use Rattle.blink_owners.specs.Tables.{DealsTo, IsNewTable, IsOwnTable, IsReturnRefusal, TakesBack, TellsDealFault, table_in};
+ghost use Rattle.blink_owners.specs.{DealsTo, IsNewTable, IsOwnTable, IsReturnRefusal, TakesBack, TellsDealFault, table_in};
 
 use crate::index_handle::IndexHandle;
 use crate::index_slot::IndexSlot;

@@ -10,8 +10,7 @@ use Rattle.blink_batch.specs.{IsAscending, pointer_of}
 use Rattle.blink_live.specs.declared.live.Pass.{Pass}
 use Rattle.blink_live.specs.declared.view.Change.{Change}
 use Rattle.blink_live.specs.declared.view.Share.{Share}
-use Rattle.blink_live.specs.{IsReport, IsSameBesideSeen, SaysOfKeys, StoppedFull, keys_of, seen_of, share_of, stop_of}
-use Rattle.blink_live.specs.Scanning.{IsBetween}
+use Rattle.blink_live.specs.{IsBetween, IsReport, IsSameBesideSeen, SaysOfKeys, StoppedFull, keys_of, seen_of, share_of, stop_of}
 use Rattle.blink_live.proofs.Offered.{prefix_of_prefix}
 use Rattle.blink_client.specs.Counted.{AllAreOwn, one_if_there, present}
 

@@ -4,6 +4,6 @@
 pub use Rattle.blink_client.specs.Shown.{IsNewWith, IsShown, IsShownTwice}
 -- how many keys of a range have an entry
 pub use Rattle.blink_client.specs.Counted.{AllAreOwn, present}
--- ---- the files
+-- ---- files that no crate above names
 pub mod Shown
 pub mod Counted

@@ -12,9 +12,10 @@ pub use Rattle.blink_command.specs.End.{IsLineOf, failure_of}
 pub use Rattle.blink_command.specs.Codes.{code_of_line_error, status_of, status_of_end}
 -- ---- for contracts and proofs above
 pub use Rattle.blink_command.specs.Line.{HasSizes, value}
--- ---- the files
-pub mod Grammar
+-- ---- files that crates above name
 pub mod Line
 pub mod Value
 pub mod End
 pub mod Codes
+-- ---- files that no crate above names
+pub mod Grammar

@@ -7,8 +7,7 @@ use Rattle.std.proofs.lemmas.List.{map-append}
 use Rattle.std.proofs.lemmas.List.Elements.{filter-append}
 use Rattle.blink_operation.specs.declared.Entry.{Entry}
 use Rattle.blink_operation.specs.{entry}
-use Rattle.blink_page.specs.{place_of, IsRising}
-use Rattle.blink_page.specs.Rising.{Rises}
+use Rattle.blink_page.specs.{IsRising, Rises, place_of}
 use Rattle.blink_page.proofs.RisingKeys.{rising_rises}
 use Rattle.blink_page.proofs.Offered.{from_at_most_to, IsRising-append}
 use Rattle.blink_page.proofs.WhereSearchesEnd.{rising_get}

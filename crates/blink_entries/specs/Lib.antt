@@ -12,14 +12,18 @@ pub use Rattle.blink_entries.specs.Dump.{entry_text, text_of_store, words_of}
 pub use Rattle.blink_entries.specs.Laws.{MapIsKept, NoOtherMapIsKept, TextIsOfLevels}
 -- trees in as few pages as their entries need
 pub use Rattle.blink_entries.specs.Packed.{AreFewest, ExceedsNumbers, IsFewest, IsInOrder, NeedsPages, numbered}
--- ---- the files
+
+-- ---- for proofs above
+pub use Rattle.blink_entries.specs.Packing.{AreEnough, AreLeaves, entries_in}
+-- ---- files that crates above name
 pub mod Index
-pub mod Leaf
 pub mod Packed
-pub mod Packing
 pub mod Scan
-pub mod Back
 pub mod Dump
+-- ---- files that no crate above names
+pub mod Leaf
+pub mod Packing
+pub mod Back
 pub mod Laws
 pub mod ScanView
 pub mod BackView

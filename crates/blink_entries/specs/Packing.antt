@@ -3,9 +3,8 @@ use Rattle.std.specs.Prelude.{◌≡◌, ◌≢◌, ℕ, ◌+◌, ◌*◌, ◌<�
 use Rattle.std.specs.List.{flat_map, sum}
 use Rattle.blink_page.specs.{PlainPage, IsLawfulPage}
 use Rattle.blink_page.specs.declared.limits.TheConstants.{GREATEST_KEY, MAX_PAGE}
-use Rattle.blink_rest.specs.{InLine, IsParentOf, entries_along, EachIsParent}
+use Rattle.blink_rest.specs.{EachIsParent, InLine, IsParentOf, entries_along, names_for}
 use Rattle.blink_rest.specs.Chain.{Cell}
-use Rattle.blink_rest.specs.Walk.{names_for}
 use Rattle.blink_entries.specs.Packed.{numbered}
 
 -- the entries of pages, in order

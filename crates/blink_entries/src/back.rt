@@ -1,7 +1,7 @@
 //! The entries of an index in the opposite order of their keys.
 ghost use Rattle.std.specs.Prelude.{◌≡◌, ◌<◌, ◌≤◌, ◌++◌, [], filter, length, reverse, IfNone, IfSome};
 ghost use Rattle.std.specs.Iterator.{YieldsFirst, item_count};
-ghost use Rattle.blink_page.specs.Rising.{Rises};
+ghost use Rattle.blink_page.specs.{Rises};
 ghost use Rattle.blink_rest.specs.{IsStoreAtRest, entries_from};
 ghost use Rattle.blink_entries.specs.Back.{entries_within};
 ghost use Rattle.blink_entries.specs.Index.{map_of};

@@ -1,8 +1,7 @@
 //! Building a tree at rest of ascending entries, from the left and from the leaves up, in as few pages as they need.
 ghost use Rattle.std.specs.Prelude.{◌≡◌, ◌<◌, ◌≤◌, ◌+◌, ◌-◌, ◌++◌, ℕ, List, None, Some, [], ◌∷◌, length, drop, IfOk, OnOk};
 ghost use Rattle.std.specs.List.{sum};
-ghost use Rattle.blink_page.specs.{IsFan, IsPageNumber, IsLawfulPage, IsRising, least_above, with_entries};
-ghost use Rattle.blink_page.specs.Entries.{last_key};
+ghost use Rattle.blink_page.specs.{IsFan, IsLawfulPage, IsPageNumber, IsRising, last_key, least_above, with_entries};
 ghost use Rattle.blink_page.specs.declared.limits.TheConstants.{GREATEST_KEY, MAX_FAN, MAX_LEVEL, MAX_PAGE};
 ghost use Rattle.blink_rest.specs.{entries_from};
 ghost use Rattle.blink_entries.specs.Index.{map_of};

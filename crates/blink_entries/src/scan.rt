@@ -1,8 +1,7 @@
 //! The entries of an index in the order of their keys.
 ghost use Rattle.std.specs.Prelude.{◌≡◌, ◌<◌, None, [], ◌++◌, drop, filter, length, IfNone, IfSome};
 ghost use Rattle.std.specs.Iterator.{YieldsFirst, item_count};
-ghost use Rattle.blink_page.specs.{place_of};
-ghost use Rattle.blink_page.specs.Rising.{Rises};
+ghost use Rattle.blink_page.specs.{Rises, place_of};
 ghost use Rattle.blink_rest.specs.{IsStoreAtRest, entries_from};
 ghost use Rattle.blink_store.specs.{PlainStore};
 ghost use Rattle.blink_entries.specs.Index.{map_of};

@@ -6,24 +6,19 @@ use Rattle.blink_batch.specs.declared.Op.{Op}
 use Rattle.blink_batch.specs.{FitsWords, answer_at, key_of}
 use Rattle.blink_batch.specs.declared.Op.TheVariants.{Delete, DeleteExact, Exchange, Find, Insert, Replace}
 use Rattle.blink_map.specs.declared.error.Full.{Full}
-use Rattle.blink_map.specs.Putting.{HasTried, IsUnchangedBy}
-use Rattle.blink_map.specs.Sessions.{AnswersInOrder, IsAnswered}
+use Rattle.blink_map.specs.{AnswersInOrder, HasTried, IsAnswered, IsSameBesideRoom, IsSameMember, IsSessionOf, IsUnchangedBy, made_by, opening_of, place_of, seen_by}
 use mathlib.Core.List.{IsPrefix}
 use lib.ListN.{get_elem?}
 use Rattle.std.specs.Arc.{arc_value}
 use Rattle.atomic_table.specs.Table.{rest}
 use Rattle.blink_batch.specs.declared.Entry.{Entry}
 use Rattle.blink_batch.specs.{pointer_of}
-use Rattle.blink_live.specs.{IsReport, IsSnapshot, StoppedFull, stop_of}
+use Rattle.blink_live.specs.{HaveAuthors, IsReport, IsSnapshot, StoppedFull, after, changes_made, made_at, put, stop_of}
 use Rattle.blink_live.specs.declared.view.Change.{Change}
 use Rattle.blink_live.specs.declared.view.Plan.{Plan}
-use Rattle.blink_live.specs.Accounts.{HaveAuthors, made_at}
-use Rattle.blink_live.specs.Changes.{after, changes_made, put}
 use Rattle.blink_live.proofs.Offered.{after-append, made_at-append, prefix_of_prefix}
 use Rattle.blink_map.specs.declared.map.Map.{Map}
 use Rattle.blink_map.specs.declared.map.Session.{Session as MapSession}
-use Rattle.blink_map.specs.Sessions.{IsSameBesideRoom, IsSameMember}
-use Rattle.blink_map.specs.{IsSessionOf, made_by, opening_of, place_of, seen_by}
 use Rattle.blink_grow.specs.declared.slots.Current.{Current}
 use Rattle.blink_grow.specs.declared.slots.Generation.{Generation}
 use Rattle.blink_grow.specs.declared.slots.Known.{Known}

@@ -7,7 +7,7 @@ use lib.ListN.{get_elem?}
 use Rattle.atomic_table.specs.Seated.{TableId}
 use Rattle.atomic_table.specs.declared.Seat.{Seat}
 use Rattle.blink_batch.specs.declared.Entry.{Entry}
-use Rattle.blink_live.specs.Accounts.{made_at}
+use Rattle.blink_live.specs.{made_at}
 use Rattle.blink_live.proofs.Offered.{prefix_of_prefix}
 use Rattle.blink_grow.specs.declared.growing.GrowingMap.{GrowingMap}
 use Rattle.blink_grow.specs.declared.growing.Session.{Session}

@@ -8,7 +8,7 @@ use Rattle.atomic_table.specs.declared.Seat.{Seat}
 use Rattle.atomic_table.proofs.Lists.{at_last, at_longer}
 use Rattle.blink_batch.specs.declared.Entry.{Entry}
 use Rattle.blink_live.specs.declared.view.Change.{Change}
-use Rattle.blink_live.specs.Accounts.{made_at}
+use Rattle.blink_live.specs.{made_at}
 use Rattle.blink_live.proofs.Offered.{prefix_of_prefix}
 use Rattle.blink_map.specs.{seen_by}
 use Rattle.blink_grow.specs.declared.growing.GrowingMap.{GrowingMap}

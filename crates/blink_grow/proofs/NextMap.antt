@@ -8,8 +8,7 @@ use Rattle.atomic_table.specs.declared.Seat.{Seat}
 use Rattle.blink_batch.specs.declared.Entry.{Entry}
 use Rattle.blink_batch.specs.{pointer_of}
 use Rattle.blink_live.specs.declared.view.Change.{Change}
-use Rattle.blink_live.specs.Accounts.{made_at}
-use Rattle.blink_live.specs.Changes.{after}
+use Rattle.blink_live.specs.{after, made_at}
 use Rattle.blink_live.proofs.Offered.{made_at-append, made_between, prefix_of_prefix}
 use Rattle.blink_map.specs.declared.map.Map.{Map}
 use Rattle.blink_map.specs.declared.map.Session.{Session as MapSession}

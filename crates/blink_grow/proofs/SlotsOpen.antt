@@ -71,7 +71,7 @@ module _ (first : List Entry) (its_map : Map) (slots : List (Option Current)) (s
       let b = ap (λ (x : Account). x.0) (at_fresh 0 (length slots) j other is_other).0 in
       omega (arith, a, b, same_slot)
 
-  no_change : (n : ℕ) → Rattle.blink_live.specs.Accounts.HaveAuthors n []
+  no_change : (n : ℕ) → Rattle.blink_live.specs.HaveAuthors n []
   no_change n k d inside = absurd (omega (arith, inside))
 
   pub slots_open : IsGrowing first s_opened

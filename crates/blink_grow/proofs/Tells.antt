@@ -7,7 +7,7 @@ use Rattle.std.specs.Arc.{arc_value}
 use Rattle.atomic_table.specs.Table.{rest}
 use Rattle.blink_batch.specs.declared.Entry.{Entry}
 use Rattle.blink_live.specs.declared.view.Change.{Change}
-use Rattle.blink_live.specs.Accounts.{HaveAuthors, made_at}
+use Rattle.blink_live.specs.{HaveAuthors, made_at}
 use Rattle.blink_live.proofs.Offered.{prefix_of_prefix}
 use Rattle.blink_map.specs.declared.map.Map.{Map}
 use Rattle.blink_map.specs.{IsSessionOf, seen_by}

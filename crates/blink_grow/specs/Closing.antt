@@ -7,8 +7,7 @@ use Rattle.atomic_table.specs.declared.Seat.{Seat}
 use Rattle.blink_batch.specs.declared.Entry.{Entry}
 use Rattle.blink_batch.specs.{pointer_of}
 use Rattle.blink_live.specs.declared.view.Change.{Change}
-use Rattle.blink_live.specs.Accounts.{HaveAuthors, made_at}
-use Rattle.blink_live.specs.Changes.{after}
+use Rattle.blink_live.specs.{HaveAuthors, after, made_at}
 use Rattle.blink_grow.specs.declared.growing.GrowingMap.{GrowingMap}
 use Rattle.blink_grow.specs.declared.growing.Session.{Session}
 use Rattle.blink_grow.specs.declared.growing.Unclosed.{Unclosed}

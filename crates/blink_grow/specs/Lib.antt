@@ -10,7 +10,7 @@ pub use Rattle.blink_grow.specs.Opening.{AreFirstSessions, IsFirstAt}
 pub use Rattle.blink_grow.specs.Closing.{IsClosedWith, IsListOf, IsUnclosed}
 -- why a map wasn't renewed
 pub use Rattle.blink_grow.specs.Renewing.{IsRefusal}
--- ---- the files
+-- ---- files that no crate above names
 pub mod Rule
 pub mod Steps
 pub mod Laid

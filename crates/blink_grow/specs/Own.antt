@@ -1,6 +1,6 @@
 -- What a session's seat knows between two calls.
 use Rattle.std.specs.Prelude.{◌≡◌, ℕ, None, List, [], ◌∷◌}
-use Rattle.blink_live.specs.Accounts.{HaveAuthors, made_at}
+use Rattle.blink_live.specs.{HaveAuthors, made_at}
 use Rattle.blink_grow.specs.declared.slots.Known.{Known}
 use Rattle.blink_grow.specs.declared.slots.SlotView.{SlotView}
 use Rattle.blink_grow.specs.Rule.{Account, SlotSeat, nothing}

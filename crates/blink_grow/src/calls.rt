@@ -164,7 +164,8 @@ impl GrowingMap {
         requires its_own { seat.old.table_id ≡ self.now.table.shared.table_id }
         requires some_slot { 0 < seat.old.me.0.slots }
         requires all { AreAllTaken (places_of self.now) seat.old.me.0.taken }
-        requires follows { (past : List Change) × Follows seat.old.me.0 (generation_of (arc_value held.map) past) }
+        requires follows { (past : List Change)
+            × Follows seat.old.me.0 (generation_of (arc_value held.map) past) }
         ensures same { seat.new.table_id ≡ seat.old.table_id }
         ensures held { result ≡ held }
         ensures switched { Switched (arc_value held.map) seat.old.me seat.new.me }

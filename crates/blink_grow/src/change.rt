@@ -7,12 +7,10 @@ ghost use Rattle.blink_grow.specs.Sessions.{IsAnswered, IsSameBesideSeen, IsSess
 
 use crate::error::GrowError;
 use crate::growing::{GrowingMap, Session};
+use crate::waiting::RENEWALS;
 use blink_batch::{Answer, Op};
 use std::alloc::Global;
 use std::sync::Wait;
-
-// How often a change renews the map. Once is enough, unless other sessions use up all the new room before the change is made.
-const RENEWALS: u32 = 8;
 
 impl GrowingMap {
     /// Runs an operation that changes the map: an insertion, a deletion, a replacement, an exchange, or a deletion of an expected

@@ -11,12 +11,10 @@ use crate::error::GrowError;
 use crate::gather::tell_all;
 use crate::growing::{GrowingMap, Session, Unclosed};
 use crate::slots::{Compare, Current, PutTogether, SlotView};
+use crate::waiting::CLOSE_LOOKS;
 use atomic_table::Seat;
 use blink_index::Index;
 use std::alloc::Global;
-
-// Nobody is in a call. So a session that isn't in its slot at the first look stays away.
-const LOOKS: u32 = 1;
 
 impl GrowingMap {
     /// Closes the map, and returns an index of its entries, in as few pages as they need. The index that was opened stays as it was.
@@ -55,11 +53,11 @@ impl GrowingMap {
             mut seat,
             lead,
             others,
-        } = match self.begin(alloc, LOOKS) {
+        } = match self.begin(alloc, CLOSE_LOOKS) {
             Ok(begun) => begun,
             Err(refusal) => return Err(refusal),
         };
-        match self.copy(alloc, &mut seat, lead, others, LOOKS) {
+        match self.copy(alloc, &mut seat, lead, others, CLOSE_LOOKS) {
             Ok(copied) => {
                 let Copied {
                     mut lead,

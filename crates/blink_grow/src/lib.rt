@@ -19,6 +19,7 @@ mod scan;
 mod slots;
 mod snapshot;
 mod tell;
+mod waiting;
 
 pub use blink_live::Scanned;
 pub use error::GrowError;

@@ -10,13 +10,11 @@ ghost use Rattle.blink_grow.specs.Renewing.{AreEntriesSeen, AreNext, IsRefusal, 
 use crate::error::GrowError;
 use crate::room::room_over;
 use crate::slots::Current;
+use crate::waiting::COPY_TRIES;
 use blink_index::{Index, SortedError};
 use blink_map::{Map, MapError, Session};
 use std::alloc::{AllocError, Global};
 use std::sync::Arc;
-
-// How often a snapshot of all keys is tried. Nobody changes the map meanwhile.
-const TRIES: u32 = 1;
 
 // An index of all entries of the session's map, in as few pages as they need. All that anybody has changed there the session has to have
 // seen, and nobody changes the map meanwhile.
@@ -33,7 +31,7 @@ pub(crate) fn index_of(alloc: Global, fan: u8, lead: &mut Current) -> Result<Ind
         session,
         number: _,
     } = lead;
-    let Ok(found) = map.snapshot(alloc, session, 0, u64::MAX, TRIES) else {
+    let Ok(found) = map.snapshot(alloc, session, 0, u64::MAX, COPY_TRIES) else {
         return Err(GrowError::OutOfMemory);
     };
     let Some(entries) = found else {

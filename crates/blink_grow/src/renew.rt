@@ -10,13 +10,11 @@ use crate::gather::tell_all;
 use crate::growing::GrowingMap;
 use crate::next::open_next;
 use crate::slots::{Current, SlotView};
+use crate::waiting::RENEWAL_LOOKS;
 use atomic_table::Seat;
 use std::alloc::Global;
 use std::sync::Wait;
 use std::sync::atomic::Ordering;
-
-// How often a renewal looks for a session that a call has, before it gives up. It yields the processor between two looks.
-const LOOKS: u32 = 1_000_000;
 
 impl GrowingMap {
     /// Renews the map: its entries are packed into another map, with new room for changes. The map does so by itself where a change
@@ -58,7 +56,7 @@ impl GrowingMap {
             mut seat,
             lead,
             others,
-        } = match self.begin(alloc, LOOKS) {
+        } = match self.begin(alloc, RENEWAL_LOOKS) {
             Ok(begun) => begun,
             Err(refusal) => return Err(refusal),
         };
@@ -70,7 +68,7 @@ impl GrowingMap {
             self.give_all(&mut seat, lead, others);
             return Ok(());
         }
-        match self.copy(alloc, &mut seat, lead, others, LOOKS) {
+        match self.copy(alloc, &mut seat, lead, others, RENEWAL_LOOKS) {
             Ok(copied) => self.go_over(alloc, &mut seat, copied),
             Err(refusal) => Err(refusal),
         }

@@ -5,13 +5,11 @@ use Rattle.blink_batch.specs.declared.Answer.{Answer}
 use Rattle.blink_batch.specs.declared.Op.TheVariants.{Insert}
 use Rattle.blink_batch.specs.{pointer_of}
 use Rattle.blink_live.specs.declared.view.Change.{Change}
-use Rattle.blink_live.specs.Changes.{after, changes_made}
-use Rattle.blink_live.specs.Accounts.{HaveAuthors, made_at}
+use Rattle.blink_live.specs.{HaveAuthors, after, changes_made, made_at}
 use Rattle.blink_live.proofs.Offered.{prefix_of_prefix}
 use Rattle.blink_grow.specs.declared.growing.GrowingMap.{GrowingMap}
 use Rattle.blink_grow.specs.declared.growing.Session.{Session}
-use Rattle.blink_grow.specs.Sessions.{HasSameSlot}
-use Rattle.blink_grow.specs.{IsAnswered, IsSessionOf, made_by, opening_of, place_of, places_of, seen_by}
+use Rattle.blink_grow.specs.{HasSameSlot, IsAnswered, IsSessionOf, made_by, opening_of, place_of, places_of, seen_by}
 use Rattle.blink_map_client.proofs.TwoInsert.{InsertsAfter}
 
 -- it has seen its own changes

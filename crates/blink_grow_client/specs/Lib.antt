@@ -2,5 +2,5 @@
 
 -- what was seen
 pub use Rattle.blink_grow_client.specs.Seen.{WasSeen}
--- ---- the files
+-- ---- files that no crate above names
 pub mod Seen

@@ -15,12 +15,12 @@ pub use Rattle.blink_index.specs.Sorted.{CanBePacked, IsFirstUnsorted, IsSortedR
 -- the code of each refusal
 pub use Rattle.blink_index.specs.Codes.{code_of, code_of_edit, code_of_sorted}
 -- laws of the plain map of an index and of its text
-pub use Rattle.blink_entries.specs.Laws.{MapIsKept, NoOtherMapIsKept, TextIsOfLevels}
+pub use Rattle.blink_entries.specs.{MapIsKept, NoOtherMapIsKept, TextIsOfLevels}
 -- trees in as few pages as their entries need
 pub use Rattle.blink_entries.specs.Packed.{AreFewest, ExceedsNumbers, IsFewest, IsInOrder, NeedsPages, numbered}
 -- ---- for proofs above
 pub use Rattle.blink_index.specs.Edit.{IsEdited, for_answers, for_next}
--- ---- the files
+-- ---- files that no crate above names
 pub mod Ends
 pub mod Edit
 pub mod Drive

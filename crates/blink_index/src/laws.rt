@@ -1,5 +1,5 @@
 //! Laws of the definitions. Each stands on a function that does nothing.
-ghost use Rattle.blink_entries.specs.Laws.{MapIsKept, NoOtherMapIsKept, TextIsOfLevels};
+ghost use Rattle.blink_entries.specs.{MapIsKept, NoOtherMapIsKept, TextIsOfLevels};
 
 /// States that the plain map which contracts see of an index is that of its tree.
 pub fn the_map_is_kept()

@@ -32,10 +32,30 @@ pub use Rattle.blink_live.specs.Words.{word_count}
 pub use Rattle.blink_live.specs.Gathered.{IsNumberedInOrder}
 -- ---- for proofs above
 pub use Rattle.blink_live.specs.Handles.{place_of, seen_changes_of}
-pub use Rattle.blink_live.specs.Changes.{changes_made, last_state, states_of}
-pub use Rattle.blink_live.specs.Deals.{rows_for}
-pub use Rattle.blink_live.specs.Views.{span}
--- ---- the files
+pub use Rattle.blink_live.specs.Changes.{changes_made, has_changed, last_state, put, states_of}
+pub use Rattle.blink_live.specs.Deals.{no_allowance, no_memory, rows_for, taken}
+pub use Rattle.blink_live.specs.Views.{CanBegin, IsCommon, SeatState, back_in, dealt_in, first_view, has_pages, has_rows, hears, is_busy, latch_in, no_aside, no_plan, no_stock, note_of, pages_of, plan_of, rows_of, rows_taken, span, takes_account}
+pub use Rattle.blink_live.specs.Accounts.{AreApart, HaveAuthors, KnowsAuthors, account_of, accounts_in, accounts_of, made_at}
+pub use Rattle.blink_live.specs.Reuse.{IsWithin}
+pub use Rattle.blink_live.specs.ComingBack.{ChecksPlace, begins_to_wait, checks_place, frees_last, gets_waiting, sees_mark, sees_place, with_stock}
+pub use Rattle.blink_live.specs.Shelves.{HasOtherRows, HasOtherStock, HasSpaceFor, IsShelved, IsShelved-prop, free_in, rows_on, stock_of}
+pub use Rattle.blink_live.specs.Allowed.{changes_left, length_of}
+pub use Rattle.blink_live.specs.Merge.{KeepsTree}
+pub use Rattle.blink_live.specs.Rule.{IsTable, IsTableAt}
+pub use Rattle.blink_live.specs.AtomicSteps.{Draws, LooksUp, draws_pages, draws_rows, marks_place}
+pub use Rattle.blink_live.specs.Spares.{spare_on}
+pub use Rattle.blink_live.specs.Seats.{HasSameNumber, IsIdleIn, IsPassSeat, IsSameSeat}
+pub use Rattle.blink_live.specs.Updating.{HasEnded, HasRowsFor, IsUnderWay}
+pub use Rattle.blink_live.specs.Straight.{HasCome}
+pub use Rattle.blink_live.specs.Pendings.{for_latch, for_level}
+pub use Rattle.blink_live.specs.Finding.{AreFound, HasSearched, IsIdle}
+pub use Rattle.blink_live.specs.Scanning.{IsBetween}
+pub use Rattle.blink_live.specs.Words.{place_word, pool_page, pool_row}
+pub use Rattle.blink_live.specs.Laid.{IsLaid}
+pub use Rattle.blink_live.specs.Leaves.{KeepsLeaves}
+pub use Rattle.blink_live.specs.Renumbered.{numbers_from}
+pub use Rattle.blink_live.specs.GivingBack.{CanGiveBack, gives_back}
+-- ---- files that no crate above names
 pub mod Handles
 pub mod Changes
 pub mod Accounts

@@ -2,8 +2,7 @@
 use Rattle.std.specs.Prelude.{◌≡◌, ◌⊎◌, ℕ, ◌+◌, ◌-◌, ◌*◌, ◌<◌, ◌≤◌, Some, List, ◌++◌, length, slice_index}
 use Rattle.blink_page.specs.{IsLawfulPage, PlainPage}
 use Rattle.blink_rest.specs.{Pages}
-use Rattle.blink_rows.specs.{IsLogged, PlainCounts, counted, page_with, page_words, records_in, row_in}
-use Rattle.blink_rows.specs.Log.{log_words}
+use Rattle.blink_rows.specs.{IsLogged, PlainCounts, counted, log_words, page_with, page_words, records_in, row_in}
 use Rattle.blink_rows.specs.declared.log.Record.{Record}
 use Rattle.blink_page.specs.declared.limits.TheConstants.{MAX_FAN, MAX_PAGE}
 use Rattle.blink_rows.specs.declared.limits.TheConstants.{ROW_WORDS}

@@ -6,7 +6,7 @@ pub use Rattle.blink_locked.specs.Run.{HasFewPagesMore, IsReplayed, IsSettled, M
 pub use Rattle.blink_locked.specs.Book.{IsBookRefusal, IsLeftEarly, IsNewBook, IsSettleRefusal, MayTurn, Turns, book_stopped}
 -- the workers whose threads are started: the first ones, one after another, up to the first that can't be started
 pub use Rattle.blink_locked.specs.Starts.{AtEach, IsStartRefusal, TellsNext}
--- ---- the files
+-- ---- files that crates above name
 pub mod Run
 pub mod Book
 pub mod Starts

@@ -47,7 +47,7 @@ pub use Rattle.blink_machine.specs.Places.{BeginsFurther, KeepsPlaces, descent_b
 pub use Rattle.blink_machine.specs.Allowance.{numbers_for, one_if, primes_for, writes_for}
 pub use Rattle.blink_machine.specs.Needs.{IsPageWrite}
 pub use Rattle.blink_machine.specs.StepLaw.{Decides, IsOpening, TellTheSame, deciding, other}
--- ---- the files
+-- ---- files that crates above name
 pub mod Machine
 pub mod Table
 pub mod Kinds
@@ -67,6 +67,7 @@ pub mod TreeMap
 pub mod StepLaw
 pub mod OneResult
 pub mod MachineView
+-- ---- files that no crate above names
 pub mod Resting
 pub mod RestingView
 pub mod LeafLaw

@@ -7,7 +7,7 @@ use Rattle.atomic_table.specs.declared.Seat.{Seat}
 use Rattle.blink_live.specs.declared.view.Account.{Account}
 use Rattle.blink_live.specs.declared.view.Change.{Change}
 use Rattle.blink_live.specs.declared.view.View.{View}
-use Rattle.blink_live.specs.Accounts.{AreApart, made_at}
+use Rattle.blink_live.specs.{AreApart, made_at}
 use Rattle.blink_live.proofs.Offered.{prefix_of_prefix}
 use Rattle.blink_map.specs.declared.map.Map.{Map}
 use Rattle.blink_map.specs.declared.map.Receipt.{Receipt}

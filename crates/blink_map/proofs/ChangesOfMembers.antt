@@ -12,11 +12,7 @@ use Rattle.blink_live.specs.declared.room.Room.{Room as CallRoom}
 use Rattle.blink_live.specs.declared.view.Plan.{Plan}
 use Rattle.blink_live.specs.declared.view.View.{View}
 use Rattle.blink_live.specs.declared.view.Change.{Change}
-use Rattle.blink_live.specs.Changes.{after, changes_made}
-use Rattle.blink_live.specs.GivingBack.{CanGiveBack, gives_back}
-use Rattle.blink_live.specs.Handles.{opening_of}
-use Rattle.blink_live.specs.Updating.{HasEnded, IsUnderWay}
-use Rattle.blink_live.specs.Views.{is_busy, latch_in, pages_of, plan_of, rows_taken}
+use Rattle.blink_live.specs.{CanGiveBack, HasEnded, IsUnderWay, after, changes_made, gives_back, is_busy, latch_in, opening_of, pages_of, plan_of, rows_taken}
 use Rattle.blink_live.proofs.Offered.{IsAfterCall, after_call}
 use Rattle.blink_map.specs.declared.member.Member.{Member}
 use Rattle.blink_map.specs.Places.{IsMemberOf}

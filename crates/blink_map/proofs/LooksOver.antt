@@ -10,10 +10,7 @@ use Rattle.blink_live.specs.declared.view.Change.{Change}
 use Rattle.blink_live.specs.declared.view.Plan.{Plan}
 use Rattle.blink_live.specs.declared.view.Share.{Share}
 use Rattle.blink_live.specs.declared.view.View.{View}
-use Rattle.blink_live.specs.Changes.{after}
-use Rattle.blink_live.specs.Finding.{AreFound, HasSearched, IsIdle}
-use Rattle.blink_live.specs.Seats.{IsPassSeat}
-use Rattle.blink_live.specs.Views.{SeatState, is_busy}
+use Rattle.blink_live.specs.{AreFound, HasSearched, IsIdle, IsPassSeat, SeatState, after, is_busy}
 use Rattle.blink_map.specs.declared.member.Member.{Member}
 use Rattle.blink_map.specs.Finding.{HasLooked}
 use Rattle.blink_map.specs.Places.{IsMemberOf}

@@ -11,12 +11,8 @@ use Rattle.blink_live.specs.declared.room.Room.{Room as CallRoom}
 use Rattle.blink_live.specs.declared.view.Plan.{Plan}
 use Rattle.blink_live.specs.declared.view.Role.TheVariants.{Pass}
 use Rattle.blink_live.specs.declared.view.View.{View}
-use Rattle.blink_live.specs.GivingBack.{CanGiveBack, gives_back}
-use Rattle.blink_live.specs.Seats.{HasSameNumber, IsPassSeat}
-use Rattle.blink_live.specs.Updating.{HasEnded}
-use Rattle.blink_live.specs.Shelves.{IsShelved}
+use Rattle.blink_live.specs.{CanGiveBack, HasEnded, HasSameNumber, IsCommon, IsPassSeat, IsShelved, SeatState, gives_back, is_busy, pages_of, rows_of, span}
 use Rattle.blink_live.proofs.Offered.{shelved_so}
-use Rattle.blink_live.specs.Views.{IsCommon, SeatState, is_busy, pages_of, rows_of, span}
 use Rattle.blink_live.proofs.Offered.{at_end, few_taken, is_its_seat}
 use Rattle.blink_map.specs.declared.member.Member.{Member}
 use Rattle.blink_map.specs.Changing.{HasChanged, HasSetOut}

@@ -6,9 +6,7 @@ use Rattle.blink_machine.specs.{PlainMachine}
 use Rattle.blink_live.specs.declared.live.Live.{Live}
 use Rattle.blink_live.specs.declared.room.Room.{Room as CallRoom}
 use Rattle.blink_live.specs.declared.view.View.{View}
-use Rattle.blink_live.specs.Seats.{HasSameNumber, IsPassSeat}
-use Rattle.blink_live.specs.Updating.{IsUnderWay}
-use Rattle.blink_live.specs.Views.{SeatState, is_busy}
+use Rattle.blink_live.specs.{HasSameNumber, IsPassSeat, IsUnderWay, SeatState, is_busy}
 use Rattle.blink_live.proofs.Offered.{marked, under_way_marked}
 use Rattle.blink_map.specs.declared.member.Member.{Member}
 use Rattle.blink_map.specs.Changing.{HasComeToRest, HasSetOut}

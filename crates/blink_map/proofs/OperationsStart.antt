@@ -8,9 +8,7 @@ use Rattle.blink_live.specs.declared.descent.Changed.TheVariants.{Ended, Rests}
 use Rattle.blink_live.specs.declared.live.Live.{Live}
 use Rattle.blink_live.specs.declared.room.Room.{Room as CallRoom}
 use Rattle.blink_live.specs.declared.view.View.{View}
-use Rattle.blink_live.specs.Seats.{HasSameNumber}
-use Rattle.blink_live.specs.Straight.{HasCome}
-use Rattle.blink_live.specs.Views.{CanBegin, SeatState, is_busy, pages_of, rows_taken}
+use Rattle.blink_live.specs.{CanBegin, HasCome, HasSameNumber, SeatState, is_busy, pages_of, rows_taken}
 use Rattle.blink_live.proofs.Offered.{taken_in_order}
 use Rattle.blink_map.specs.declared.member.Member.{Member}
 use Rattle.blink_map.specs.Changing.{HasComeOut}

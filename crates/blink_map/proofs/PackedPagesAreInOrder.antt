@@ -8,10 +8,8 @@ use Rattle.blink_page.specs.{PlainPage}
 use Rattle.blink_rest.specs.{numbers_of}
 use Rattle.blink_rest.specs.Chain.{Cell}
 use Rattle.blink_store.specs.{PlainStore}
-use Rattle.blink_index.specs.{IsInOrder, numbered}
-use Rattle.blink_index.specs.Sorted.{IsFirstUnsorted}
-use Rattle.blink_live.specs.{IsNumberedInOrder}
-use Rattle.blink_live.specs.Renumbered.{numbers_from}
+use Rattle.blink_index.specs.{IsFirstUnsorted, IsInOrder, numbered}
+use Rattle.blink_live.specs.{IsNumberedInOrder, numbers_from}
 
 numbers_of-append : (cells others : List Cell) → numbers_of (cells ++ others) ≡ numbers_of cells ++ numbers_of others
 numbers_of-append [] others = refl

@@ -7,12 +7,8 @@ use Rattle.blink_batch.specs.{key_of, pointer_of}
 use Rattle.blink_machine.specs.{PlainMachine, latch_at, latch_of}
 use Rattle.blink_live.specs.declared.live.Live.{Live}
 use Rattle.blink_live.specs.declared.view.Change.{Change}
-use Rattle.blink_live.specs.Changes.{after, changes_made}
-use Rattle.blink_live.specs.Handles.{opening_of as opening_of_table}
-use Rattle.blink_live.specs.Views.{pages_of, rows_of}
+use Rattle.blink_live.specs.{IsUnderWay, IsWaiting, after, changes_made, for_latch, for_level, opening_of as opening_of_table, pages_of, rows_of}
 use Rattle.blink_rows.specs.declared.span.Span.{Span}
-use Rattle.blink_live.specs.Pendings.{IsWaiting, for_latch, for_level}
-use Rattle.blink_live.specs.Updating.{IsUnderWay}
 use Rattle.blink_map.specs.declared.map.Map.{Map}
 use Rattle.blink_map.specs.declared.map.Pending.{Pending}
 use Rattle.blink_map.specs.declared.map.Session.{Session}

@@ -12,7 +12,7 @@ use Rattle.atomic_table.specs.Seated.{TableId}
 use Rattle.atomic_table.specs.Table.{State, Act, Valid, stepped, carried_after, keeps, takes, gives, step, put_back, rest, opening, Allows, Enters}
 use Rattle.atomic_table.proofs.Lists.{set_here, set_else, exchanged, some_there}
 use Rattle.blink_live.specs.declared.view.Plan.{Plan}
-use Rattle.blink_live.specs.Views.{plan_of}
+use Rattle.blink_live.specs.{plan_of}
 use Rattle.blink_map.specs.declared.map.Map.{Map}
 use Rattle.blink_map.specs.declared.map.Session.{Session}
 use Rattle.blink_map.specs.declared.rest.Visitor.{Visitor}

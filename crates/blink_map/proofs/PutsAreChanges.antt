@@ -7,10 +7,7 @@ use Rattle.blink_batch.specs.declared.Op.{Op}
 use Rattle.blink_batch.specs.declared.Op.TheVariants.{Delete, DeleteExact, Exchange, Find, Insert, Replace}
 use Rattle.blink_batch.specs.{answer_at, key_of, pointer_of}
 use Rattle.blink_live.specs.declared.view.Change.{Change}
-use Rattle.blink_live.specs.Changes.{after, changes_made}
-use Rattle.blink_live.specs.Allowed.{length_of}
-use Rattle.blink_live.specs.Shelves.{HasSpaceFor, free_in, rows_on}
-use Rattle.blink_live.specs.Views.{pages_of, rows_of}
+use Rattle.blink_live.specs.{HasSpaceFor, after, changes_made, free_in, length_of, pages_of, rows_of, rows_on}
 use Rattle.blink_live.specs.declared.shelf.Shelf.{Shelf}
 use Rattle.blink_rows.specs.declared.span.Span.{Span}
 use Rattle.blink_live.proofs.Offered.{prefix_of_prefix}

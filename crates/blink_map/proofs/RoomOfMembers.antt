@@ -4,9 +4,7 @@ use Rattle.blink_batch.specs.declared.Op.{Op}
 use Rattle.blink_batch.specs.declared.Op.TheVariants.{Insert, Replace}
 use Rattle.blink_rows.specs.declared.span.Span.{Span}
 use Rattle.blink_live.specs.declared.view.View.{View}
-use Rattle.blink_live.specs.Shelves.{free_in}
-use Rattle.blink_live.specs.Updating.{HasRowsFor}
-use Rattle.blink_live.specs.Views.{CanBegin, rows_of, rows_taken, pages_of}
+use Rattle.blink_live.specs.{CanBegin, HasRowsFor, free_in, pages_of, rows_of, rows_taken}
 use Rattle.blink_live.proofs.Offered.{enough_taken, less_space, taken_in_order}
 use Rattle.blink_map.specs.declared.member.Member.{Member}
 use Rattle.blink_map.specs.Sessions.{HasRoom, HasRoomInAll}

@@ -10,13 +10,7 @@ use Rattle.blink_live.specs.declared.descent.Changed.TheVariants.{Ended, Rests}
 use Rattle.blink_live.specs.declared.live.Live.{Live}
 use Rattle.blink_live.specs.declared.room.Room.{Room as CallRoom}
 use Rattle.blink_live.specs.declared.view.View.{View}
-use Rattle.blink_live.specs.Allowed.{length_of}
-use Rattle.blink_live.specs.Handles.{opening_of}
-use Rattle.blink_live.specs.Pendings.{IsWaiting}
-use Rattle.blink_live.specs.Seats.{HasSameNumber}
-use Rattle.blink_live.specs.Shelves.{free_in, rows_on}
-use Rattle.blink_live.specs.Updating.{IsUnderWay}
-use Rattle.blink_live.specs.Views.{is_busy, pages_of, rows_of}
+use Rattle.blink_live.specs.{HasSameNumber, IsUnderWay, IsWaiting, free_in, is_busy, length_of, opening_of, pages_of, rows_of, rows_on}
 use Rattle.blink_map.specs.declared.member.Member.{Member}
 use Rattle.blink_map.specs.declared.member.UnderWay.{UnderWay}
 use Rattle.blink_map.specs.Sessions.{AnswersInOrder, IsSameMember, made_by_member, seen_of_member}

@@ -6,7 +6,7 @@ use Rattle.blink_batch.specs.declared.Entry.{Entry}
 use Rattle.blink_live.specs.declared.view.Account.{Account}
 use Rattle.blink_live.specs.declared.view.Change.{Change}
 use Rattle.blink_live.specs.declared.view.View.{View}
-use Rattle.blink_live.specs.Accounts.{HaveAuthors, account_of, made_at}
+use Rattle.blink_live.specs.{HaveAuthors, account_of, made_at}
 use Rattle.blink_map.specs.declared.map.Map.{Map}
 use Rattle.blink_map.specs.declared.map.Receipt.{Receipt}
 use Rattle.blink_map.specs.declared.map.Session.{Session}

@@ -17,11 +17,7 @@ use Rattle.blink_live.specs.declared.view.Change.{Change}
 use Rattle.blink_live.specs.declared.view.Plan.{Plan}
 use Rattle.blink_live.specs.declared.view.Role.TheVariants.{Keeper}
 use Rattle.blink_live.specs.declared.view.View.{View}
-use Rattle.blink_live.specs.Changes.{after}
-use Rattle.blink_live.specs.Accounts.{AreApart, HaveAuthors, made_at}
-use Rattle.blink_live.specs.Handles.{counts_of, fan_of, opening_of}
-use Rattle.blink_live.specs.Rule.{IsTableAt}
-use Rattle.blink_live.specs.Views.{IsCommon, back_in, dealt_in, first_view, plan_of}
+use Rattle.blink_live.specs.{AreApart, HaveAuthors, IsCommon, IsTableAt, after, back_in, counts_of, dealt_in, fan_of, first_view, made_at, opening_of, plan_of}
 
 -- the seat is that of the table's host: a keeper's, in a common table
 pub record IsHost (live : Live) (seat : Seat ℕ View) : Type 0 where

@@ -2,10 +2,7 @@
 use Rattle.std.specs.Prelude.{◌⊎◌, ℕ, ◌+◌, ◌/◌, ◌≤◌}
 use Rattle.atomic_table.specs.Table.{Step}
 use Rattle.blink_rows.specs.declared.span.Span.{Span}
-use Rattle.blink_live.specs.Allowed.{length_of}
-use Rattle.blink_live.specs.AtomicSteps.{Draws}
-use Rattle.blink_live.specs.Reuse.{IsWithin}
-use Rattle.blink_live.specs.Views.{SeatState, has_pages, span}
+use Rattle.blink_live.specs.{Draws, IsWithin, SeatState, has_pages, length_of, span}
 
 -- the numbers drawn follow those that the seat has, and it has both; those beside stay
 abbrev pub joins_pages : Step ℕ → SeatState → ℕ → SeatState → Type 0

@@ -3,8 +3,7 @@ use Rattle.std.specs.Prelude.{◌≡◌, ℕ, List}
 use mathlib.Core.List.{IsPrefix}
 use Rattle.blink_batch.specs.declared.Entry.{Entry}
 use Rattle.blink_live.specs.declared.live.Live.{Live}
-use Rattle.blink_live.specs.Handles.{opening_of as opening_of_table}
-use Rattle.blink_live.specs.{IsReport, IsReportBack}
+use Rattle.blink_live.specs.{IsReport, IsReportBack, opening_of as opening_of_table}
 use Rattle.blink_map.specs.declared.member.Member.{Member}
 use Rattle.blink_map.specs.Sessions.{IsSameMember, made_by_member, seen_of_member}
 

@@ -3,7 +3,7 @@
 -- the operations that change a map
 pub use Rattle.blink_machine.specs.{IsUpdate}
 -- a map and its sessions
-pub use Rattle.blink_map.specs.Sessions.{AnswersAsSeen, HasRoom, IsAnswered, IsOpenedWith, IsTooLarge, IsSameBesideRoom, IsSameBesideSeen, IsSameSession, IsSessionOf, LacksRoom, LacksRoomInAll, made_by, opening_of, place_of, places_of, seen_by}
+pub use Rattle.blink_map.specs.Sessions.{AnswersAsSeen, HasRoom, IsAnswered, IsOpenedWith, IsTooLarge, IsSameBesideRoom, IsSameBesideSeen, IsSameSession, IsSessionOf, LacksRoom, LacksRoomInAll, counts_of, made_by, opening_of, place_of, places_of, seen_by}
 -- how a map opens: each session is the first of its place
 pub use Rattle.blink_map.specs.Opening.{AreFirstSessions, IsFirstAt}
 -- the places where sessions rest
@@ -27,7 +27,9 @@ pub use Rattle.blink_map.specs.Ends.{IsFirstFrom, IsLastTo}
 pub use Rattle.blink_map.specs.Stocks.{stock_of}
 -- the code of each refusal
 pub use Rattle.blink_map.specs.Codes.{code_of}
--- ---- the files
+-- ---- for proofs above
+pub use Rattle.blink_map.specs.Sessions.{AnswersInOrder, IsSameMember}
+-- ---- files that no crate above names
 pub mod Codes
 pub mod Common
 pub mod Hosting

@@ -5,7 +5,7 @@ use Rattle.blink_live.specs.declared.live.Live.{Live}
 use Rattle.blink_live.specs.declared.view.Role.TheVariants.{Keeper}
 use Rattle.blink_live.specs.declared.view.View.{View}
 use Rattle.blink_map.specs.Common.{IsHost}
-use Rattle.blink_live.specs.Views.{span}
+use Rattle.blink_live.specs.{span}
 use Rattle.blink_map.specs.declared.map.Map.{Map}
 use Rattle.blink_map.specs.declared.map.Session.{Session}
 use Rattle.blink_map.specs.declared.member.Member.{Member}

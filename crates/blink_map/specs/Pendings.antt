@@ -2,8 +2,7 @@
 use Rattle.std.specs.Prelude.{◌≡◌, None}
 use Rattle.blink_batch.specs.declared.Op.{Op}
 use Rattle.blink_machine.specs.{latch_of}
-use Rattle.blink_live.specs.Pendings.{IsWaiting}
-use Rattle.blink_live.specs.Views.{pages_of, rows_of}
+use Rattle.blink_live.specs.{IsWaiting, pages_of, rows_of}
 use Rattle.blink_map.specs.declared.map.Map.{Map}
 use Rattle.blink_map.specs.declared.map.Pending.{Pending}
 use Rattle.blink_map.specs.declared.map.Session.{Session}

@@ -3,7 +3,7 @@ use Rattle.std.specs.Prelude.{◌≡◌}
 use Rattle.atomic_table.specs.Seated.{TableId}
 use Rattle.blink_live.specs.declared.live.Live.{Live}
 use Rattle.blink_live.specs.declared.view.Plan.{Plan}
-use Rattle.blink_live.specs.Views.{plan_of}
+use Rattle.blink_live.specs.{plan_of}
 use Rattle.blink_map.specs.declared.member.Member.{Member}
 
 -- the member is one of this table's

@@ -5,7 +5,7 @@ use Rattle.blink_batch.specs.declared.Op.{Op}
 use Rattle.blink_batch.specs.declared.Op.TheVariants.{Insert}
 use Rattle.blink_batch.specs.{pointer_of}
 use Rattle.blink_live.specs.declared.view.Change.{Change}
-use Rattle.blink_live.specs.Changes.{after}
+use Rattle.blink_live.specs.{after}
 use Rattle.blink_map.specs.declared.map.Map.{Map}
 use Rattle.blink_map.specs.declared.map.Session.{Session}
 use Rattle.blink_map.specs.Sessions.{IsSameBesideRoom, IsSameMember, made_by, opening_of, place_of, seen_by}

@@ -1,7 +1,7 @@
 -- What a session had seen, as its receipt tells it.
 use Rattle.std.specs.Prelude.{◌≡◌, ℕ, List}
 use Rattle.blink_live.specs.declared.view.Change.{Change}
-use Rattle.blink_live.specs.Accounts.{made_at}
+use Rattle.blink_live.specs.{made_at}
 use Rattle.blink_map.specs.declared.map.Map.{Map}
 use Rattle.blink_map.specs.declared.map.Receipt.{Receipt}
 use Rattle.blink_map.specs.declared.map.Session.{Session}

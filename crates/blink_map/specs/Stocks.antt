@@ -1,9 +1,7 @@
 -- What a session has of rows and page numbers.
 use Rattle.std.specs.Prelude.{ℕ, ◌-◌, ◌^◌, min, Option, Some, None}
 use Rattle.blink_live.specs.declared.shelf.Shelf.{Shelf}
-use Rattle.blink_live.specs.Allowed.{length_of}
-use Rattle.blink_live.specs.Shelves.{free_in}
-use Rattle.blink_live.specs.Spares.{spare_on}
+use Rattle.blink_live.specs.{free_in, length_of, spare_on}
 use Rattle.blink_map.specs.declared.map.Session.{Session}
 use Rattle.blink_map.specs.Drawing.{numbers_in}
 use Rattle.blink_map.specs.declared.stock.Stock.{Stock}

@@ -6,7 +6,7 @@ ghost use Rattle.blink_batch.specs.declared.Answer.{Answer};
 ghost use Rattle.blink_batch.specs.declared.Op.{Op};
 ghost use Rattle.blink_machine.specs.{IsUpdate};
 ghost use Rattle.blink_machine.specs.declared.machine.State.TheVariants.{Ended};
-ghost use Rattle.blink_live.specs.Pendings.{IsWaiting};
+ghost use Rattle.blink_live.specs.{IsWaiting};
 ghost use Rattle.blink_map.specs.declared.member.Member.{Member};
 ghost use Rattle.blink_map.specs.Changing.{HasBeside, HasChanged, HasSetOut, IsAtRest, IsAtWork};
 ghost use Rattle.blink_map.specs.Pendings.{GoesOn, HasBegun, IsPendingOf, op_of, session_of};

@@ -3,9 +3,8 @@ ghost use Rattle.std.specs.Prelude.{◌≡◌, ◌⊎◌, ◌<◌, ◌∷◌, Li
 ghost use mathlib.Core.List.{IsPrefix};
 ghost use Rattle.blink_batch.specs.declared.Entry.{Entry};
 ghost use Rattle.blink_index.specs.{map_of};
-ghost use Rattle.blink_live.specs.Accounts.{account_of};
+ghost use Rattle.blink_live.specs.{IsNumberedInOrder, account_of};
 ghost use Rattle.blink_live.specs.declared.view.Change.{Change};
-ghost use Rattle.blink_live.specs.{IsNumberedInOrder};
 ghost use Rattle.blink_map.specs.Closing.{HasHeard, HasSettled, IsClosedWith, IsSettledWith};
 ghost use Rattle.blink_map.specs.Common.{AreEntriesAfter, IsAfter, IsHost};
 ghost use Rattle.blink_map.specs.Places.{IsMemberOf};

@@ -5,12 +5,8 @@ ghost use mathlib.Core.List.{IsPrefix};
 ghost use Rattle.blink_page.specs.declared.limits.TheConstants.{MAX_PAGE};
 ghost use Rattle.blink_map.specs.Common.{HasAllChanges, IsOpenedCommon, IsHost};
 ghost use Rattle.blink_map.specs.Receipts.{seen_in};
-ghost use Rattle.blink_live.specs.Laid.{IsLaid};
-ghost use Rattle.blink_live.specs.Accounts.{account_of};
-ghost use Rattle.blink_live.specs.Seats.{HasSameNumber, IsIdleIn, IsPassSeat};
-ghost use Rattle.blink_live.specs.Views.{plan_of, takes_account};
+ghost use Rattle.blink_live.specs.{HasSameNumber, IsIdleIn, IsLaid, IsPassSeat, account_of, place_word, plan_of, pool_page, pool_row, takes_account, word_count};
 ghost use Rattle.blink_live.specs.declared.view.Role.TheVariants.{Pass};
-ghost use Rattle.blink_live.specs.Words.{place_word, pool_page, pool_row, word_count};
 
 use crate::map::Receipt;
 use crate::settled::Settled;

@@ -16,7 +16,8 @@ impl Map {
     /// the first that has an entry.
     pub fn first(&self, session: &mut Session) -> Option<Entry>
         requires its_own { IsSessionOf self.now session.old }
-        ensures found { IsFirstFrom (opening_of self.now) (seen_by session.old) (seen_by session.new) 0 result }
+        ensures found { IsFirstFrom (opening_of self.now)
+            (seen_by session.old) (seen_by session.new) 0 result }
         ensures same { IsSameBesideSeen session.old session.new }
     {
         self.at_least(session, 0)

@@ -1,7 +1,7 @@
 //! Looking up a key.
 ghost use Rattle.std.specs.Prelude.{◌≡◌};
 ghost use Rattle.blink_batch.specs.{pointer_of};
-ghost use Rattle.blink_live.specs.Changes.{after};
+ghost use Rattle.blink_live.specs.{after};
 ghost use Rattle.blink_map.specs.Finding.{HasLooked};
 ghost use Rattle.blink_map.specs.Places.{IsMemberOf};
 ghost use Rattle.blink_map.specs.Sessions.{IsSameBesideSeen, IsSessionOf, opening_of, seen_by, state_seen};

@@ -1,6 +1,6 @@
 //! Looking up several keys by one call.
 ghost use Rattle.std.specs.Prelude.{◌≡◌, length};
-ghost use Rattle.blink_live.specs.Handles.{opening_of as opening_of_table};
+ghost use Rattle.blink_live.specs.{opening_of as opening_of_table};
 ghost use Rattle.blink_map.specs.Finding.{HasLooked};
 ghost use Rattle.blink_map.specs.Places.{IsMemberOf};
 ghost use Rattle.blink_map.specs.Sessions.{AnswersAsSeen, IsSameBesideSeen, IsSessionOf, opening_of, seen_by, seen_of_member};

@@ -31,6 +31,7 @@ mod stock;
 mod tell;
 mod unclosed;
 mod waiting;
+mod words;
 
 pub use blink_live::Scanned;
 pub use error::{Full, MapError};

@@ -2,7 +2,7 @@
 //! operation under way.
 ghost use Rattle.std.specs.Prelude.{◌≡◌, ◌<◌, ◌≤◌, []};
 ghost use Rattle.blink_live.specs.declared.view.Role.TheVariants.{Spent};
-ghost use Rattle.blink_live.specs.Seats.{IsIdleIn};
+ghost use Rattle.blink_live.specs.{IsIdleIn};
 
 use crate::member::{Member, UnderWay};
 use crate::rest::{RuleOfHost, Stand, Visitor};

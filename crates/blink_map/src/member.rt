@@ -2,9 +2,7 @@
 //! while an operation is under way.
 ghost use Rattle.std.specs.Prelude.{◌≡◌, ◌≢◌, ◌<◌, ◌≤◌, [], None};
 ghost use Rattle.blink_live.specs.declared.view.Role.TheVariants.{Pass};
-ghost use Rattle.blink_live.specs.Accounts.{KnowsAuthors};
-ghost use Rattle.blink_live.specs.Shelves.{IsShelved, IsShelved-prop};
-ghost use Rattle.blink_live.specs.Views.{IsCommon};
+ghost use Rattle.blink_live.specs.{IsCommon, IsShelved, IsShelved-prop, KnowsAuthors};
 
 use atomic_table::Seat;
 use blink_live::{Room, Shelf, View};

@@ -1,8 +1,7 @@
 //! Opening a map over an index.
 ghost use Rattle.std.specs.Prelude.{◌≡◌, ◌⊎◌, ◌↔◌, ◌+◌, ◌++◌, ◌<◌, ◌≤◌, [], ◌∷◌, All, IfErr, IfOk, OnOk, IsErrOf, length};
 ghost use Rattle.blink_map.specs.Common.{IsHost};
-ghost use Rattle.blink_live.specs.Shelves.{stock_of};
-ghost use Rattle.blink_live.specs.Views.{no_stock};
+ghost use Rattle.blink_live.specs.{no_stock, stock_of};
 ghost use Rattle.blink_map.specs.Opening.{AreFirst, AreFirstSessions, IsFirstAt, IsHostWith};
 ghost use Rattle.blink_map.specs.Sessions.{IsSessionOf, IsOpenedWith, IsTooLarge};
 

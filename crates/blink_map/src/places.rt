@@ -60,7 +60,7 @@ pub(crate) trait Belongs {
 
 impl Belongs for Brand {
     ghost use Rattle.blink_map.specs.Resting.{no_table};
-    ghost use Rattle.blink_live.specs.Views.{no_plan};
+    ghost use Rattle.blink_live.specs.{no_plan};
 
     ghost table = { no_table };
 

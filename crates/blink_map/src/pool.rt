@@ -1,9 +1,6 @@
 //! How a session's seat draws rows and page numbers from the map's pool.
 ghost use Rattle.std.specs.Prelude.{◌≡◌, ◌+◌, ◌-◌, ◌<◌, ◌≤◌, IfNone, IfSome, IsTrue};
-ghost use Rattle.blink_live.specs.Allowed.{length_of};
-ghost use Rattle.blink_live.specs.Seats.{HasSameNumber, IsPassSeat};
-ghost use Rattle.blink_live.specs.Views.{has_pages, has_rows, span};
-ghost use Rattle.blink_live.specs.Words.{pool_page, pool_row};
+ghost use Rattle.blink_live.specs.{HasSameNumber, IsPassSeat, has_pages, has_rows, length_of, pool_page, pool_row, span};
 ghost use Rattle.blink_map.specs.Drawing.{IsPart, KeepsNumbers, numbers_in};
 
 use crate::common::{POOL_PAGE, POOL_ROW};

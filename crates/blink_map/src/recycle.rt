@@ -1,8 +1,6 @@
 //! How a session brings rows onto its shelf: those that it has taken out, once they have come back, and those of its span.
 ghost use Rattle.std.specs.Prelude.{◌≡◌, ◌+◌, ◌<◌, ◌≤◌, Some, [], IsTrue, length};
-ghost use Rattle.blink_live.specs.Allowed.{length_of};
-ghost use Rattle.blink_live.specs.Seats.{HasSameNumber, IsPassSeat};
-ghost use Rattle.blink_live.specs.Shelves.{HasOtherRows, HasOtherStock, IsShelved, rows_on};
+ghost use Rattle.blink_live.specs.{HasOtherRows, HasOtherStock, HasSameNumber, IsPassSeat, IsShelved, length_of, rows_on};
 
 use crate::steps::{begin_wait, check_place, collect, free_row, see_place};
 use atomic_table::Seat;

@@ -1,7 +1,7 @@
 //! Joining a map, and leaving it.
 ghost use Rattle.std.specs.Prelude.{◌≡◌, ◌<◌, Option, [], ◌∷◌, Some, All, IfErr, IfOk, IsTrue, replicate};
 ghost use Rattle.blink_map.specs.declared.map.Session.{Session};
-ghost use Rattle.blink_live.specs.Views.{plan_of};
+ghost use Rattle.blink_live.specs.{plan_of};
 ghost use Rattle.blink_map.specs.Joining.{map_at};
 ghost use Rattle.blink_map.specs.Sessions.{IsSessionOf};
 

@@ -2,7 +2,7 @@
 ghost use Rattle.std.specs.Prelude.{◌≡◌, ◌+◌, ◌*◌};
 ghost use Rattle.std.specs.Mem.Slots.{slots_len, IsFull};
 ghost use Rattle.blink_page.specs.{IsFan};
-ghost use Rattle.blink_live.specs.Words.{word_count};
+ghost use Rattle.blink_live.specs.{word_count};
 
 use atomic_table::Closed;
 use blink_rows::Counts;

@@ -1,7 +1,6 @@
 //! Snapshots: the entries of a range of keys as all of them were at one time, while other sessions change the map.
 ghost use Rattle.std.specs.Prelude.{◌≡◌, IfOk, IfSome};
-ghost use Rattle.blink_live.specs.{IsSnapshot};
-ghost use Rattle.blink_live.specs.Handles.{opening_of as opening_of_table};
+ghost use Rattle.blink_live.specs.{IsSnapshot, opening_of as opening_of_table};
 ghost use Rattle.blink_map.specs.Finding.{HasLooked};
 ghost use Rattle.blink_map.specs.Places.{IsMemberOf};
 ghost use Rattle.blink_map.specs.Sessions.{IsSameBesideSeen, IsSessionOf, opening_of, seen_by, seen_of_member};

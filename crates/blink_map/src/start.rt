@@ -3,7 +3,7 @@ ghost use Rattle.std.specs.Prelude.{IfErr, IfOk};
 ghost use Rattle.blink_batch.specs.{FitsWords};
 ghost use Rattle.blink_batch.specs.declared.Op.{Op};
 ghost use Rattle.blink_machine.specs.{IsUpdate};
-ghost use Rattle.blink_live.specs.Pendings.{IsWaiting};
+ghost use Rattle.blink_live.specs.{IsWaiting};
 ghost use Rattle.blink_map.specs.declared.map.Session.{Session};
 ghost use Rattle.blink_map.specs.Changing.{HasChanged, IsAtRest};
 ghost use Rattle.blink_map.specs.Places.{IsMemberOf};

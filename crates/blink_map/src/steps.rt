@@ -1,13 +1,8 @@
 //! The atomic steps that only a map's seats take: a session's seat marks its place, takes back what a call hasn't used, and brings
 //! rows back that it has taken out; the host's seat sees what sessions have told it.
 ghost use Rattle.std.specs.Prelude.{◌≡◌, ◌⊎◌, ◌+◌, ◌<◌, ◌≤◌, ℕ, None, suc, [], length};
-ghost use Rattle.blink_live.specs.AtomicSteps.{LooksUp};
+ghost use Rattle.blink_live.specs.{CanGiveBack, ChecksPlace, HasSameNumber, IsIdleIn, IsPassSeat, IsSameSeat, KnowsAuthors, LooksUp, begins_to_wait, frees_last, gets_waiting, gives_back, hears, is_busy, note_of, plan_of, sees_mark, with_stock};
 ghost use Rattle.blink_map.specs.Common.{IsHost};
-ghost use Rattle.blink_live.specs.GivingBack.{CanGiveBack, gives_back};
-ghost use Rattle.blink_live.specs.Accounts.{KnowsAuthors};
-ghost use Rattle.blink_live.specs.ComingBack.{ChecksPlace, begins_to_wait, frees_last, gets_waiting, sees_mark, with_stock};
-ghost use Rattle.blink_live.specs.Seats.{HasSameNumber, IsIdleIn, IsPassSeat, IsSameSeat};
-ghost use Rattle.blink_live.specs.Views.{hears, is_busy, note_of, plan_of};
 ghost use Rattle.blink_live.specs.declared.view.Role.TheVariants.{Spent};
 
 use crate::common::PLACE_WORDS;

@@ -1,7 +1,7 @@
 //! Telling another session what one has seen.
 ghost use Rattle.std.specs.Prelude.{◌≡◌};
 ghost use mathlib.Core.List.{IsPrefix};
-ghost use Rattle.blink_live.specs.Handles.{OneIsPrefix};
+ghost use Rattle.blink_live.specs.{OneIsPrefix};
 ghost use Rattle.blink_map.specs.Finding.{HasLooked};
 ghost use Rattle.blink_map.specs.Places.{IsMemberOf};
 ghost use Rattle.blink_map.specs.Sessions.{IsSameBesideSeen, IsSameSession, IsSessionOf, seen_by, seen_of_member};

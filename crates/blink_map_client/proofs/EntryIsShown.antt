@@ -6,7 +6,7 @@ use Rattle.blink_batch.specs.declared.Answer.TheVariants.{Inserted}
 use Rattle.blink_batch.specs.declared.Op.TheVariants.{Insert}
 use Rattle.blink_batch.specs.{answer_at}
 use Rattle.blink_live.specs.declared.view.Change.{Change}
-use Rattle.blink_live.specs.Changes.{after, changes_made, last_state, states_of}
+use Rattle.blink_live.specs.{after, changes_made, last_state, states_of}
 use Rattle.blink_live.proofs.Offered.{after-append, after-last_state}
 use Rattle.blink_map.specs.{change_to}
 

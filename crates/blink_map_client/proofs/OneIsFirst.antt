@@ -7,8 +7,7 @@ use Rattle.blink_batch.specs.declared.Answer.TheVariants.{Exists, Inserted}
 use Rattle.blink_batch.specs.declared.Op.TheVariants.{Insert}
 use Rattle.blink_batch.specs.{answer_at}
 use Rattle.blink_live.specs.declared.view.Change.{Change}
-use Rattle.blink_live.specs.Changes.{after, changes_made}
-use Rattle.blink_live.specs.Accounts.{made_at}
+use Rattle.blink_live.specs.{after, changes_made, made_at}
 use Rattle.blink_live.proofs.Offered.{AreBy, made_here}
 use Rattle.blink_map.specs.{change_to}
 use Rattle.blink_map_client.specs.Racing.{OneIsInserted}

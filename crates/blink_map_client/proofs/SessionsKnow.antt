@@ -7,13 +7,11 @@ use Rattle.blink_batch.specs.declared.Op.TheVariants.{Insert}
 use Rattle.blink_batch.specs.{pointer_of}
 use Rattle.blink_live.specs.declared.view.Change.{Change}
 use Rattle.blink_live.specs.declared.view.Plan.{Plan}
-use Rattle.blink_live.specs.Changes.{after, changes_made}
-use Rattle.blink_live.specs.Accounts.{HaveAuthors, made_at}
+use Rattle.blink_live.specs.{HaveAuthors, after, changes_made, made_at}
 use Rattle.blink_live.proofs.Offered.{after-append, made_here}
 use Rattle.blink_map.specs.declared.map.Map.{Map}
 use Rattle.blink_map.specs.declared.map.Session.{Session}
-use Rattle.blink_map.specs.Sessions.{IsSameMember}
-use Rattle.blink_map.specs.{AreFirstSessions, IsAnswered, IsSessionOf, change_to, made_by, opening_of, place_of, places_of, seen_by}
+use Rattle.blink_map.specs.{AreFirstSessions, IsAnswered, IsSameMember, IsSessionOf, change_to, made_by, opening_of, place_of, places_of, seen_by}
 use Rattle.blink_map_client.specs.Alone.{kept_or}
 
 -- it has seen its own changes

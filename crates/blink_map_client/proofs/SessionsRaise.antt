@@ -4,13 +4,11 @@ use Rattle.std.proofs.lemmas.List.{append_cancel_left}
 use mathlib.Core.List.{IsPrefix, append-nil}
 use Rattle.blink_batch.specs.{pointer_of}
 use Rattle.blink_live.specs.declared.view.Change.{Change}
-use Rattle.blink_live.specs.Accounts.{made_at}
-use Rattle.blink_live.specs.Changes.{after, put}
+use Rattle.blink_live.specs.{after, made_at, put}
 use Rattle.blink_live.proofs.Offered.{made_at-append}
 use Rattle.blink_map.specs.declared.map.Map.{Map}
 use Rattle.blink_map.specs.declared.map.Session.{Session}
-use Rattle.blink_map.specs.Putting.{HasTried, IsPut}
-use Rattle.blink_map.specs.{change_to, made_by, opening_of, place_of, seen_by}
+use Rattle.blink_map.specs.{HasTried, IsPut, change_to, made_by, opening_of, place_of, seen_by}
 use Rattle.blink_map_client.specs.Counting.{AreRaises, HasRaised, IsRaise, IsRaisedTo}
 use Rattle.blink_map_client.proofs.RaisesAdd.{after_both, made_first, none_raised, raised_both}
 use Rattle.blink_map_client.proofs.SessionsKnow.{no_length, saw_own}

@@ -8,13 +8,11 @@ use Rattle.blink_batch.specs.declared.Answer.{Answer}
 use Rattle.blink_batch.specs.declared.Answer.TheVariants.{Exists, Replaced}
 use Rattle.blink_batch.specs.declared.Op.TheVariants.{Exchange}
 use Rattle.blink_batch.specs.{answer_at, pointer_of}
-use Rattle.blink_live.specs.Changes.{after, changes_made, has_changed}
+use Rattle.blink_live.specs.{after, changes_made, has_changed}
 use Rattle.blink_live.proofs.Offered.{prefix_of_prefix}
 use Rattle.blink_map.specs.declared.map.Map.{Map}
 use Rattle.blink_map.specs.declared.map.Session.{Session}
-use Rattle.blink_map.specs.Putting.{HasTried, WasAbsent}
-use Rattle.blink_map.specs.Sessions.{IsAnswered, IsSameBesideSeen, LacksRoomInAll, opening_of, place_of, seen_by}
-use Rattle.blink_map.specs.{change_to}
+use Rattle.blink_map.specs.{HasTried, IsAnswered, IsSameBesideSeen, LacksRoomInAll, WasAbsent, change_to, opening_of, place_of, seen_by}
 use Rattle.blink_map.proofs.PutsAreChanges.{put_so, put_then, tried, tried_twice}
 use Rattle.blink_map_client.specs.declared.counter.NotRaised.{NotRaised}
 use Rattle.blink_map_client.specs.declared.counter.NotRaised.TheVariants.{Absent, Greatest, Full}

@@ -9,8 +9,7 @@ use Rattle.blink_batch.specs.declared.Answer.{Answer}
 use Rattle.blink_batch.specs.declared.Op.TheVariants.{Insert}
 use Rattle.blink_batch.specs.{answer_at}
 use Rattle.blink_live.specs.declared.view.Change.{Change}
-use Rattle.blink_live.specs.Changes.{after, changes_made}
-use Rattle.blink_live.specs.Accounts.{HaveAuthors, made_at}
+use Rattle.blink_live.specs.{HaveAuthors, after, changes_made, made_at}
 use Rattle.blink_live.proofs.Offered.{after-append, made_at-append}
 use Rattle.blink_map_client.specs.Racing.{OneIsInserted}
 use Rattle.blink_map_client.proofs.OneIsFirst.{AreByTwo, Inserts, one_is_inserted}

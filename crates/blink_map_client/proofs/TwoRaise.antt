@@ -3,15 +3,11 @@ use Rattle.std.proofs.Common.{◌≡◌, ◌≢◌, ⊎_elim, ℕ, ◌+◌, ◌<
 use mathlib.Core.List.{IsPrefix}
 use Rattle.blink_batch.specs.{pointer_of}
 use Rattle.blink_live.specs.declared.view.Change.{Change}
-use Rattle.blink_live.specs.Accounts.{HaveAuthors, made_at}
-use Rattle.blink_live.specs.Allowed.{length_of}
-use Rattle.blink_live.specs.Changes.{after}
-use Rattle.blink_live.specs.Shelves.{rows_on}
+use Rattle.blink_live.specs.{HaveAuthors, after, length_of, made_at, rows_on}
 use Rattle.blink_live.proofs.Offered.{after-append, made_between, prefix_of_prefix}
 use Rattle.blink_map.specs.declared.map.Map.{Map}
 use Rattle.blink_map.specs.declared.map.Session.{Session}
-use Rattle.blink_map.specs.Sessions.{IsSameBesideSeen}
-use Rattle.blink_map.specs.{IsSessionOf, made_by, opening_of, place_of, places_of, seen_by}
+use Rattle.blink_map.specs.{IsSameBesideSeen, IsSessionOf, made_by, opening_of, place_of, places_of, seen_by}
 use Rattle.blink_map_client.specs.declared.counter.NotRaised.{NotRaised}
 use Rattle.blink_map_client.specs.declared.counter.NotRaised.TheVariants.{Absent, Greatest, Full}
 use Rattle.blink_map_client.specs.Counting.{CannotRaise, HasRaised, IsAllOrRefused, IsFoundForBoth, LacksRoomToRaise}

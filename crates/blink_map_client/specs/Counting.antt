@@ -4,12 +4,10 @@ use mathlib.Core.List.{IsPrefix}
 use Rattle.blink_batch.specs.declared.Op.TheVariants.{Exchange}
 use Rattle.blink_batch.specs.{pointer_of}
 use Rattle.blink_live.specs.declared.view.Change.{Change}
-use Rattle.blink_live.specs.Accounts.{made_at}
-use Rattle.blink_live.specs.Changes.{after, put}
+use Rattle.blink_live.specs.{after, made_at, put}
 use Rattle.blink_map.specs.declared.map.Map.{Map}
 use Rattle.blink_map.specs.declared.map.Session.{Session}
-use Rattle.blink_map.specs.Putting.{HasTried, IsPut, WasAbsent}
-use Rattle.blink_map.specs.Sessions.{IsSameBesideSeen, IsSameMember, LacksRoomInAll, made_by, opening_of, place_of, seen_by}
+use Rattle.blink_map.specs.{HasTried, IsPut, IsSameBesideSeen, IsSameMember, LacksRoomInAll, WasAbsent, made_by, opening_of, place_of, seen_by}
 use Rattle.blink_map_client.specs.declared.counter.Counted.{Counted}
 use Rattle.blink_map_client.specs.declared.counter.NotRaised.{NotRaised}
 use Rattle.blink_map_client.specs.declared.counter.NotRaised.TheVariants.{Absent, Greatest, Full}

@@ -10,7 +10,7 @@ pub use Rattle.blink_map_client.specs.Racing.{OneIsInserted}
 pub use Rattle.blink_map_client.specs.Counting.{AreEnds, AreRaises, CannotRaise, HasRaised, IsAllOrRefused, IsRaise, IsRaisedTo}
 -- a map whose sessions all come to its close
 pub use Rattle.blink_map_client.specs.Whole.{AreOnlyTheirs}
--- ---- the files
+-- ---- files that no crate above names
 pub mod Alone
 pub mod Shown
 pub mod Racing

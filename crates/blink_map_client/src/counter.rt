@@ -1,7 +1,6 @@
 //! A counter: a key whose pointer sessions raise by one, each by exchanging the pointer that it found for the next number.
 ghost use Rattle.std.specs.Prelude.{◌≡◌, ◌≢◌, ◌+◌, ◌<◌, IfErr, IfOk, IfSome, IsNone, OnErr};
-ghost use Rattle.blink_map.specs.{IsSessionOf, WasAbsent, place_of, places_of};
-ghost use Rattle.blink_map.specs.Putting.{HasTried};
+ghost use Rattle.blink_map.specs.{HasTried, IsSessionOf, WasAbsent, place_of, places_of};
 ghost use Rattle.blink_map_client.specs.Counting.{AreEnds, CannotRaise, HasRaised, IsAllOrRefused, IsFoundForBoth, IsRaisedTo, IsRaiseTried};
 
 use blink_batch::{Answer, Op};

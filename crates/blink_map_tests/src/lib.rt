@@ -37,3 +37,5 @@ mod stepping;
 mod story;
 #[cfg(test)]
 mod threads;
+#[cfg(test)]
+mod words;

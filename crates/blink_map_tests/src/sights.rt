@@ -19,6 +19,8 @@ pub(crate) enum Sight {
     // The pool has so many rows or page numbers.
     PoolRows(u64),
     PoolPages(u64),
+    // These words of the map's table are so.
+    Words(&'static [(usize, Option<u64>)]),
 }
 
 impl Two {
@@ -35,6 +37,11 @@ impl Two {
             }
             Sight::PoolRows(rows) => same(rt, &self.map.room().0, &rows),
             Sight::PoolPages(pages) => same(rt, &self.map.room().1, &pages),
+            Sight::Words(words) => {
+                for &(place, word) in words {
+                    same_for(rt, &self.map.word(place), &word, &place);
+                }
+            }
         }
     }
 

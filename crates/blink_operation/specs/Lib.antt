@@ -11,7 +11,7 @@ pub use Rattle.blink_operation.specs.Text.{text_of}
 -- ---- for proofs above
 pub use Rattle.blink_operation.specs.Operation.{map_at}
 pub use Rattle.blink_operation.specs.Text.{line_of}
--- ---- the files
+-- ---- files that crates above name
 pub mod Operation
 pub mod PlainMap
 pub mod Batch

@@ -2,8 +2,7 @@
 use Rattle.std.proofs.Common.{◌≡◌, ℕ, List, sym, subst}
 use Rattle.blink_live.specs.declared.error.LiveError.{LiveError}
 use Rattle.blink_live.specs.declared.error.LiveError.TheVariants.{Taken, NoAllowance}
-use Rattle.blink_live.specs.Deals.{IsDealRefusal, taken, no_allowance, no_memory}
-use Rattle.blink_live.specs.{IsFirstTaken, LacksAllowance, NoneIsTaken, taken_of}
+use Rattle.blink_live.specs.{IsDealRefusal, IsFirstTaken, LacksAllowance, NoneIsTaken, no_allowance, no_memory, taken, taken_of}
 use Rattle.blink_owners.specs.declared.table_owner.TableOwner.{TableOwner}
 use Rattle.blink_owners.specs.Tables.{IsDealFault}
 

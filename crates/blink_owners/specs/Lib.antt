@@ -25,7 +25,17 @@ pub use Rattle.blink_owners.specs.Maps.{HasBadSessions, IsNewMap, IsTooLargeMap,
 pub use Rattle.blink_owners.specs.Sessions.{Answers, EndsFrom, Finds as SessionFinds, IsAdvanceRefusal as IsSessionAdvanceRefusal, IsChangeRefusal, IsOwnSession, IsPutRefusal, IsShortage, IsTakeRefusal as IsSessionTakeRefusal, IsTellRefusal as IsSessionTellRefusal, Puts, Scans as SessionScans, ScansBack as SessionScansBack, Takes as SessionTakes, TellsOn as SessionTellsOn, TellsStock}
 -- readers of an index, each behind a handle
 pub use Rattle.blink_owners.specs.Readers.{index_at, index_in}
--- ---- the files
+
+-- ---- for proofs above
+pub use Rattle.blink_owners.specs.Tables.{table_in}
+pub use Rattle.blink_owners.specs.Maps.{CanClose, IsClosedMap, IsOwnMap, IsOwnerOfSame, fan_in, map_in}
+-- ---- files that crates above name
+pub mod Passes
+pub mod Sessions
+pub mod Codes
+pub mod TableCodes
+pub mod MapCodes
+-- ---- files that no crate above names
 pub mod Raw
 pub mod Runs
 pub mod Sorted
@@ -34,11 +44,6 @@ pub mod Found
 pub mod Filled
 pub mod Reports
 pub mod Tables
-pub mod Passes
 pub mod Maps
-pub mod Sessions
 pub mod Readers
 -- the codes of refusals
-pub mod Codes
-pub mod TableCodes
-pub mod MapCodes

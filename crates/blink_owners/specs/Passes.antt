@@ -14,8 +14,7 @@ use Rattle.blink_live.specs.declared.error.HandError.{HandError}
 use Rattle.blink_live.specs.declared.error.HandError.TheVariants as hand
 use Rattle.blink_live.specs.declared.error.LiveError.TheVariants.{OutOfMemory}
 use Rattle.blink_live.specs.declared.error.PassError.TheVariants.{NotYours, Spent}
-use Rattle.blink_live.specs.{AllAreYours, HasBegun, IsChangedBy, IsHandRefusal as IsRefusalOfKeys, IsHanded, IsPassOf, IsPendingOf, IsSameBesideSeen, IsSamePass, IsWaiting, KnowsItsKeys, SawAllOf, SaysOfKeys, after, keys_of, op_of, opening_of, pass_of, seen_of, share_of, start_of, stop_of}
-use Rattle.blink_live.specs.Allowed.{changes_left}
+use Rattle.blink_live.specs.{AllAreYours, HasBegun, IsChangedBy, IsHandRefusal as IsRefusalOfKeys, IsHanded, IsPassOf, IsPendingOf, IsSameBesideSeen, IsSamePass, IsWaiting, KnowsItsKeys, SawAllOf, SaysOfKeys, after, changes_left, keys_of, op_of, opening_of, pass_of, seen_of, share_of, start_of, stop_of}
 use Rattle.blink_owners.specs.declared.raw.RawAnswer.{RawAnswer}
 use Rattle.blink_owners.specs.declared.raw.RawScanned.{RawScanned}
 use Rattle.blink_owners.specs.declared.raw.RawTaken.{RawTaken}

@@ -2,8 +2,7 @@
 ghost use Rattle.std.specs.Prelude.{◌≡◌, ◌≢◌, ◌↔◌, Contains, IfErr, IfOk, IsErrOf, OnErr, OnOk};
 ghost use Rattle.blink_batch.specs.{key_of};
 ghost use Rattle.blink_machine.specs.{IsUpdate};
-ghost use Rattle.blink_live.specs.{HasBegun, IsPassOf, IsPendingOf, keys_of};
-ghost use Rattle.blink_live.specs.Allowed.{changes_left};
+ghost use Rattle.blink_live.specs.{HasBegun, IsPassOf, IsPendingOf, changes_left, keys_of};
 ghost use Rattle.blink_owners.specs.Passes.{Begins, Ends, Finds, Glances, Hands, IsAdvanceRefusal, IsBeginRefusal, IsFindRefusal, IsHandRefusal, IsNotBusy, IsNotFree, IsOwn, IsTakeRefusal, IsTellRefusal, Scans, ScansBack, Takes, TellsOn, table_of};
 
 use crate::raw::{RawAnswer, RawScanned, RawTaken};

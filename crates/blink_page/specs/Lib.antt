@@ -25,14 +25,15 @@ pub use Rattle.blink_page.specs.Place.{place_of}
 -- ---- for proofs above
 pub use Rattle.blink_page.specs.Page.{HasChildren}
 pub use Rattle.blink_page.specs.Entries.{last_key_or}
-pub use Rattle.blink_page.specs.Rising.{Covers, next_key}
--- ---- the files
+pub use Rattle.blink_page.specs.Rising.{Covers, Rises, next_key}
+-- ---- files that crates above name
+pub mod Put
+pub mod Post
+-- ---- files that no crate above names
 pub mod Page
 pub mod Entries
 pub mod Rising
 pub mod Way
-pub mod Put
-pub mod Post
 pub mod Split
 pub mod Limits
 pub mod Laws

@@ -14,7 +14,7 @@ pub use Rattle.blink_replay.specs.Text.{scan_text}
 pub use Rattle.blink_replay.specs.TrackedWriter.{OutputFails, Writes, WritesAll, WritesPrefix, nothing, replay_text}
 -- ---- for contracts and proofs above
 pub use Rattle.blink_replay.specs.Served.{FlushedOutputAfterError, IsBatchFault, IsPartFault, IsTextBeforeBatch, IsTextOfPrefix, PartOutputAfterError, PrefixOutputAfterError, part_after, part_text, script_text}
--- ---- the files
+-- ---- files that crates above name
 pub mod Served
 pub mod ServedReplay
 pub mod Replay

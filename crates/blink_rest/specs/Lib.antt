@@ -28,9 +28,11 @@ pub use Rattle.blink_rest.specs.Level.{IsParentOf, high_keys, separators}
 pub use Rattle.blink_rest.specs.Rest.{AreChains, EachIsParent, TopHasOne}
 pub use Rattle.blink_rest.specs.Reach.{IsRoot, Reaches, at_root, down, to_right}
 pub use Rattle.blink_rest.specs.Numbers.{AllDiffer, AreWithin, Avoids}
--- ---- the files
+pub use Rattle.blink_rest.specs.Walk.{names_for}
+-- ---- files that crates above name
 pub mod Chain
 pub mod Level
+-- ---- files that no crate above names
 pub mod References
 pub mod Entries
 pub mod TreeMap

@@ -26,6 +26,6 @@ pub use Rattle.blink_replay.specs.Replay
 pub use Rattle.blink_replay.specs.Trace
 pub use Rattle.blink_replay.specs.Text
 pub use Rattle.blink_replay.specs.TrackedWriter
--- ---- the files
+-- ---- files that no crate above names
 pub mod BySettings
 pub mod Lanes

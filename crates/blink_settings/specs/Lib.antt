@@ -4,6 +4,6 @@
 pub use Rattle.blink_settings.specs.Settings.{IsAllowed, PlainSettings, lanes_by, lanes_by_residue}
 -- the code of each refusal
 pub use Rattle.blink_settings.specs.Codes.{code_of, code_of_serve_error, code_of_settings_error}
--- ---- the files
+-- ---- files that crates above name
 pub mod Settings
 pub mod Codes

@@ -2,7 +2,7 @@
 
 -- the text of a script's replay, to be looked at
 pub use Rattle.blink_show.specs.Show.{IsSeedText, IsShowText, LeavesShow}
--- ---- the files
+-- ---- files that no crate above names
 pub mod Show
 pub mod Frames
 pub mod Lines

@@ -19,7 +19,7 @@ pub use Rattle.blink_steps.specs.StepBounds.{steps_at_most_with}
 -- the effect of an operation's step on the store and the latches that workers share
 pub use Rattle.blink_steps.specs.Acts.{PlainShared}
 -- the code of each refusal
-pub use Rattle.blink_batch.specs.Codes.{code_of_step_error}
+pub use Rattle.blink_batch.specs.{code_of_step_error}
 -- by their file, since they have its name or another file's word: RunInvariant.{RunInvariant}
 
 -- ---- for proofs above
@@ -46,7 +46,9 @@ pub use Rattle.blink_machine.specs.TreeMap
 pub use Rattle.blink_machine.specs.Allowance
 pub use Rattle.blink_machine.specs.StepLaw
 pub use Rattle.blink_machine.specs.OneResult
--- ---- the files
+-- ---- files that crates above name
+pub mod RunInvariant
+-- ---- files that no crate above names
 pub mod Run
 pub mod World
 pub mod Promises
@@ -58,7 +60,6 @@ pub mod StepBounds
 pub mod Bounds
 pub mod Outcome
 pub mod LaneQueues
-pub mod RunInvariant
 pub mod Decided
 pub mod Acts
 pub mod Seats

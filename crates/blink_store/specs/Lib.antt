@@ -10,7 +10,7 @@ pub use Rattle.blink_store.specs.Latches.{ChangesHolder, HoldsNone, IsHeldByOne,
 pub use Rattle.blink_store.specs.Codes.{code_of}
 -- ---- for proofs above
 pub use Rattle.blink_store.specs.Latches.{Holds}
--- ---- the files
+-- ---- files that no crate above names
 pub mod Store
 pub mod Leaf
 pub mod Latches

@@ -4,6 +4,6 @@
 pub use Rattle.index_main.specs.Program.{HasLeft, IsFault, LetsOut, RunsBy, Writes}
 -- a writer that keeps what it was given before
 pub use Rattle.index_main.specs.Appending.{BeginsWith}
--- ---- the files
+-- ---- files that no crate above names
 pub mod Appending
 pub mod Program

@@ -12,7 +12,7 @@ pub use Rattle.blink_command.specs.{code_of_line_error, status_of, status_of_end
 pub use Rattle.blink_command.specs.Value
 pub use Rattle.blink_command.specs.End
 pub use Rattle.blink_command.specs.Codes
--- ---- the files
+-- ---- files that no crate above names
 pub mod Line
 pub mod Show
 pub mod Grammar

@@ -2,5 +2,5 @@
 
 -- the program's output for a command line, and what is left after a refusal
 pub use Rattle.show_main.specs.Program.{IsFault, Leaves, WritesPage}
--- ---- the files
+-- ---- files that no crate above names
 pub mod Program

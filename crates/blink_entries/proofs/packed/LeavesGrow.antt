@@ -2,9 +2,7 @@
 use Rattle.std.proofs.Common.{◌≡◌, ℕ, ◌+◌, ◌*◌, ◌<◌, ◌≤◌, ◌⊎◌, zero, suc, Some, None, List, [], ◌∷◌, ◌++◌, inl, inr, length, get_or, set, refl, sym, ap, subst, ◌∙◌, arith, append_assoc, append-nil, length-append}
 use Rattle.std.proofs.Math.Nat.{mul-le-mul_right}
 use Rattle.std.proofs.lemmas.Bool.{cases_lt}
-use Rattle.blink_page.specs.{IsFan, IsLawfulPage, IsPageNumber, IsRising, PlainPage, least_above, with_entries}
-use Rattle.blink_page.specs.Entries.{last_key, last_key_or}
-use Rattle.blink_page.specs.Rising.{next_key}
+use Rattle.blink_page.specs.{IsFan, IsLawfulPage, IsPageNumber, IsRising, PlainPage, last_key, last_key_or, least_above, next_key, with_entries}
 use Rattle.blink_page.specs.declared.limits.TheConstants.{GREATEST_KEY, MAX_PAGE}
 use Rattle.blink_page.proofs.RisingKeys.{IsRising-append, length-rising, next_at_most_to, next_key-last, rising_rest, rising_to_next}
 use Rattle.blink_page.proofs.ChangedEntries.{ValuesWithin-append}

@@ -4,9 +4,8 @@ use Rattle.std.proofs.Math.Seq.{drop-append_seam}
 use Rattle.std.proofs.lemmas.List.{length-take-le, take-append-drop, take-append-le}
 use Rattle.blink_page.specs.{IsLawfulPage, IsPageNumber, PlainPage}
 use Rattle.blink_page.specs.declared.limits.TheConstants.{GREATEST_KEY, MAX_LEVEL, MAX_PAGE}
-use Rattle.blink_rest.specs.{InLine, entries_along}
+use Rattle.blink_rest.specs.{InLine, entries_along, names_for}
 use Rattle.blink_rest.specs.Chain.{Cell, cell}
-use Rattle.blink_rest.specs.Walk.{names_for}
 use Rattle.blink_rest.proofs.Offered.{InLine-append, entries_along-append}
 use Rattle.blink_entries.specs.Packed.{numbered}
 use Rattle.blink_entries.specs.Packing.{AddsLevel, HasNumbersOver, IsGroup, IsWhole, link_to, page_over}

@@ -3,7 +3,7 @@ use mathlib.Core.List.{IsPrefix, append-nil}
 use Rattle.blink_batch.specs.{pointer_of}
 use Rattle.blink_batch.specs.declared.Answer.{Answer}
 use Rattle.blink_live.specs.declared.view.Change.{Change}
-use Rattle.blink_live.specs.Accounts.{HaveAuthors, made_at}
+use Rattle.blink_live.specs.{HaveAuthors, made_at}
 use Rattle.blink_live.proofs.Offered.{made_between, prefix_of_prefix}
 use Rattle.blink_grow.specs.declared.growing.GrowingMap.{GrowingMap}
 use Rattle.blink_grow.specs.declared.growing.Session.{Session}

@@ -1,8 +1,7 @@
 //! Making an index of ascending entries.
 ghost use Rattle.std.specs.Prelude.{◌≡◌, ◌≤◌, length, IfErr, IfNone, IfOk, IfSome};
 ghost use Rattle.blink_operation.specs.{IsAscending};
-ghost use Rattle.blink_page.specs.{IsFan};
-ghost use Rattle.blink_page.specs.Rising.{Rises};
+ghost use Rattle.blink_page.specs.{IsFan, Rises};
 ghost use Rattle.blink_page.specs.declared.limits.TheConstants.{MAX_PAGE};
 ghost use Rattle.blink_rest.specs.{IsMapOf, pairs_of};
 ghost use Rattle.blink_entries.specs.Index.{map_of};

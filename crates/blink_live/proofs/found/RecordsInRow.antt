@@ -4,8 +4,7 @@ use Rattle.std.specs.Prelude.{slice_index}
 use Rattle.std.proofs.lemmas.List.{get_or-append-add, length-take-le, take_more, take-append-drop}
 use Rattle.blink_page.specs.{IsKeyOf, PlainPage, value_at}
 use Rattle.blink_page.specs.declared.limits.TheConstants.{MAX_FAN}
-use Rattle.blink_rows.specs.{Fits, PlainCounts, counted, page_after, page_with, page_words, pointer_after, records_in, row_in}
-use Rattle.blink_rows.specs.Log.{AllFit, log_words}
+use Rattle.blink_rows.specs.{AllFit, Fits, PlainCounts, counted, log_words, page_after, page_with, page_words, pointer_after, records_in, row_in}
 use Rattle.blink_rows.specs.declared.limits.TheConstants.{MAX_RECORDS, ROW_WORDS}
 use Rattle.blink_rows.specs.declared.log.Kind.{Kind}
 use Rattle.blink_rows.specs.declared.log.Kind.TheVariants.{Replaced}

@@ -10,8 +10,7 @@ use Rattle.blink_batch.specs.declared.Op.{Op}
 use Rattle.blink_batch.specs.declared.Op.TheVariants.{Find}
 use Rattle.blink_batch.specs.{pointer_of}
 use Rattle.blink_page.specs.{IsKeyOf, least_above}
-use Rattle.blink_rows.specs.{PlainCounts}
-use Rattle.blink_rows.specs.Row.{flag}
+use Rattle.blink_rows.specs.{PlainCounts, flag}
 use Rattle.blink_machine.specs.declared.machine.State.TheVariants.{Ended}
 use Rattle.blink_machine.specs.{PlainMachine, goes_on}
 use Rattle.blink_live.specs.declared.snapshot.NotedLeaf.{NotedLeaf}

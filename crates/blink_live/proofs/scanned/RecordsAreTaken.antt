@@ -4,8 +4,7 @@ use Rattle.std.proofs.lemmas.Bool.Decides.{nat_tests}
 use Rattle.std.proofs.lemmas.List.{take_all}
 use Rattle.blink_page.specs.{IsLawfulPage, PlainPage, value_at}
 use Rattle.blink_page.specs.declared.limits.TheConstants.{MAX_FAN}
-use Rattle.blink_rows.specs.{Fits, page_with, pointer_after}
-use Rattle.blink_rows.specs.Log.{AllFit, applied}
+use Rattle.blink_rows.specs.{AllFit, Fits, applied, page_with, pointer_after}
 use Rattle.blink_rows.specs.declared.log.Record.{Record}
 use Rattle.blink_rows.proofs.Offered.{fit_older, lawful_content, own_key, value_elsewhere, value_here}
 use Rattle.blink_live.specs.Merging.{AreNewest, RecordsRise, told, with_older}

@@ -2,9 +2,7 @@
 use Rattle.std.proofs.Common.{◌≡◌, ℕ, ◌+◌, ◌*◌, ◌<◌, ◌≤◌, List, [], ◌∷◌, ◌++◌, length, length-append, refl, sym, ap, ◌∙◌, subst, arith}
 use Rattle.blink_page.specs.{IsLawfulPage, PlainPage}
 use Rattle.blink_page.specs.declared.limits.TheConstants.{MAX_FAN}
-use Rattle.blink_rows.specs.{Fits, IsLogged, counted, page_after, page_with, page_word, record_words, records_in}
-use Rattle.blink_rows.specs.Log.{log_words}
-use Rattle.blink_rows.specs.Naming.{row_in}
+use Rattle.blink_rows.specs.{Fits, IsLogged, counted, log_words, page_after, page_with, page_word, record_words, records_in, row_in}
 use Rattle.blink_rows.specs.declared.limits.TheConstants.{HEAD_WORDS, MAX_RECORDS, ROW_LIMIT, ROW_WORDS}
 use Rattle.blink_rows.specs.declared.log.Record.{Record}
 use Rattle.blink_rows.specs.declared.naming.Records.{Records}

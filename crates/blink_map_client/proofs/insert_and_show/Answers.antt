@@ -2,7 +2,7 @@ use Rattle.std.proofs.Common.{ℕ, List, [], ◌∷◌, ◌++◌, Option, sym, a
 use mathlib.Core.List.{IsPrefix}
 use Rattle.blink_batch.specs.{pointer_of}
 use Rattle.blink_live.specs.declared.view.Change.{Change}
-use Rattle.blink_live.specs.Changes.{after}
+use Rattle.blink_live.specs.{after}
 use Rattle.blink_live.proofs.Offered.{prefix_of_prefix}
 use Rattle.blink_map.specs.{change_to, opening_of, place_of, seen_by}
 use Rattle.blink_map_client.proofs.EntryIsShown.{goes_on_with, insertion_made, still_there}

@@ -4,8 +4,7 @@ use Rattle.blink_batch.specs.{pointer_of}
 use Rattle.blink_batch.specs.declared.Answer.{Answer}
 use Rattle.blink_batch.specs.declared.Op.TheVariants.{Insert}
 use Rattle.blink_live.specs.declared.view.Change.{Change}
-use Rattle.blink_live.specs.Changes.{after, changes_made}
-use Rattle.blink_live.specs.Accounts.{HaveAuthors, made_at}
+use Rattle.blink_live.specs.{HaveAuthors, after, changes_made, made_at}
 use Rattle.blink_live.proofs.Offered.{made_between, prefix_of_prefix}
 use Rattle.blink_map.specs.declared.map.Map.{Map}
 use Rattle.blink_map.specs.declared.map.Session.{Session}

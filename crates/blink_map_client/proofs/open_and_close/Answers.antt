@@ -2,7 +2,7 @@ use Rattle.std.proofs.Common.{◌≡◌, List, [], ap, ◌∙◌}
 use Rattle.blink_batch.specs.declared.Entry.{Entry}
 use Rattle.blink_batch.specs.{pointer_of}
 use Rattle.blink_live.specs.declared.view.Change.{Change}
-use Rattle.blink_live.specs.Changes.{after}
+use Rattle.blink_live.specs.{after}
 use Rattle.blink_map.specs.declared.map.Map.{Map}
 use Rattle.blink_map.specs.{opening_of, places_of}
 use Rattle.blink_map_client.proofs.SessionsKnow.{no_change, none_at}

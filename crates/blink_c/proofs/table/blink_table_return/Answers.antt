@@ -2,7 +2,7 @@ use Rattle.std.proofs.Common.{IfErr, subst}
 use Rattle.blink_owners.specs.declared.pass_owner.PassOwner.{PassOwner}
 use Rattle.blink_owners.specs.declared.table_owner.TableOwner.{TableOwner}
 use Rattle.blink_owners.specs.TableCodes.{code_of}
-use Rattle.blink_owners.specs.Tables.{IsReturnRefusal, TakesBack}
+use Rattle.blink_owners.specs.{IsReturnRefusal, TakesBack}
 use Rattle.blink_c.proofs.Codes.{on_done, told_why}
 use Rattle.blink_c.proofs.CodesOfTables.{not_done}
 use Rattle.blink_c.proofs.table.blink_table_return.Goals as goal

@@ -1,8 +1,7 @@
 use Rattle.std.proofs.Common.{◌≡◌, ◌+◌, ◌-◌, ℕ, Option, inl, length, ap, ◌∙◌, subst, arith, take}
 use Rattle.std.specs.Prelude.{IfSome}
 use Rattle.std.specs.List.{AllByRecursion}
-use Rattle.blink_live.specs.{StoppedFull, share_of, stop_of}
-use Rattle.blink_live.specs.Scanning.{IsBetween}
+use Rattle.blink_live.specs.{IsBetween, StoppedFull, share_of, stop_of}
 use Rattle.blink_client.specs.Counted.{present}
 use Rattle.blink_client.proofs.ReportsAreCounted.{own_scan, present_at_most, report_long, same_on, stopped_behind, stops_inside}
 use Rattle.blink_client.proofs.count.count_own.Goals as goal

@@ -1,6 +1,5 @@
 use Rattle.std.proofs.Common.{◌≡◌, ◌+◌, ◌≤◌, ◌++◌, ℕ, List, [], length, drop, eqb-true, ap, sym, subst, ◌∙◌, arith, append-nil}
-use Rattle.blink_page.specs.{PlainPage, least_above, place_of}
-use Rattle.blink_page.specs.Rising.{Rises}
+use Rattle.blink_page.specs.{PlainPage, Rises, least_above, place_of}
 use Rattle.blink_page.specs.declared.limits.TheConstants.{GREATEST_KEY}
 use Rattle.blink_rest.specs.{entries_from}
 use Rattle.blink_entries.specs.Back.{entries_within}

@@ -1,5 +1,5 @@
 use Rattle.std.proofs.Common.{◌≡◌, ◌-◌, suc, length, arith}
-use Rattle.blink_page.specs.Rising.{next_key}
+use Rattle.blink_page.specs.{next_key}
 use Rattle.blink_entries.proofs.StretchOfScan.{all_up_to}
 use Rattle.std.proofs.Common.{sym}
 use Rattle.blink_entries.proofs.back.not_above.Goals as goal

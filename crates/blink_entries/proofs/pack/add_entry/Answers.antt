@@ -1,7 +1,6 @@
 use Rattle.std.proofs.Common.{◌≡◌, ◌+◌, ◌-◌, ◌++◌, ◌≤◌, ◌<◌, ℕ, List, Some, [], ◌∷◌, suc, length, set, get_or, Result, Ok, Err, ap, sym, subst, ◌∙◌, arith}
 use Rattle.std.specs.Prelude.{OnOk}
-use Rattle.blink_page.specs.{IsPageNumber, IsRising, PlainPage, least_above, with_entries}
-use Rattle.blink_page.specs.Entries.{last_key}
+use Rattle.blink_page.specs.{IsPageNumber, IsRising, PlainPage, last_key, least_above, with_entries}
 use Rattle.blink_page.specs.declared.limits.TheConstants.{GREATEST_KEY}
 use Rattle.blink_entries.specs.Packing.{AreLeaves, HasLeafNumber, entries_in, leaf_after}
 use Rattle.blink_entries.proofs.packed.LeavesGrow.{closed, entries_by_entry, entries_by_leaf, grown_by_entry, grown_by_leaf, is_last_leaf, last_key_below, last_leaf_set, leaves_before, next_in_range, rises_in_last, some_leaf, with_entry}

@@ -1,6 +1,5 @@
 use Rattle.std.proofs.Common.{◌≡◌, ◌-◌, ◌∙◌, Some, length, ap, subst, sym, arith}
-use Rattle.blink_page.specs.{IsLawfulPage, PlainPage}
-use Rattle.blink_page.specs.Entries.{last_key}
+use Rattle.blink_page.specs.{IsLawfulPage, PlainPage, last_key}
 use Rattle.blink_page.specs.declared.limits.TheConstants.{MAX_FAN}
 use Rattle.blink_entries.proofs.packed.LeavesGrow.{last_key-there, lawful_closed}
 use Rattle.blink_entries.proofs.pack.close.Goals as goal

@@ -2,7 +2,7 @@ use Rattle.std.proofs.Common.{◌≡◌, ◌-◌, ◌++◌, ℕ, List, [], ◌�
 use Rattle.std.proofs.lemmas.List.{take_all}
 use Rattle.blink_page.specs.{IsLawfulPage, PlainPage}
 use Rattle.blink_page.specs.declared.limits.TheConstants.{MAX_FAN}
-use Rattle.blink_rest.specs.Walk.{names_for}
+use Rattle.blink_rest.specs.{names_for}
 use Rattle.blink_entries.specs.Packed.{numbered}
 use Rattle.blink_entries.specs.Packing.{floor_of_first, high_of_last}
 use Rattle.blink_entries.proofs.packed.PagesOver.{floor_there, high_there, length-names, names_more}

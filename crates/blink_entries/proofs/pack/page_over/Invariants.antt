@@ -1,5 +1,5 @@
 use Rattle.std.proofs.Common.{◌≡◌, ◌+◌, take}
-use Rattle.blink_rest.specs.Walk.{names_for}
+use Rattle.blink_rest.specs.{names_for}
 use Rattle.blink_entries.specs.Packed.{numbered}
 use Rattle.blink_entries.proofs.pack.page_over.Given as goal
 

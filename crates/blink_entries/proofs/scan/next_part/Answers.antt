@@ -1,6 +1,5 @@
 use Rattle.std.proofs.Common.{◌≡◌, ◌+◌, ◌<◌, ◌++◌, [], length, eqb-true, ap, sym, subst, ◌∙◌, arith}
-use Rattle.blink_page.specs.{PlainPage, least_above}
-use Rattle.blink_page.specs.Rising.{Rises}
+use Rattle.blink_page.specs.{PlainPage, Rises, least_above}
 use Rattle.blink_page.proofs.RisingKeys.{rising_rises}
 use Rattle.blink_rest.specs.{entries_from}
 use Rattle.blink_entries.specs.Scan.{entries_after, entries_to}

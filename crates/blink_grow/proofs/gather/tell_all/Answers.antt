@@ -3,7 +3,7 @@ use mathlib.Core.Option.{some, some-injective}
 use mathlib.Core.List.{IsPrefix}
 use lib.ListN.{get_elem?}
 use Rattle.blink_live.specs.declared.view.Change.{Change}
-use Rattle.blink_live.specs.Accounts.{made_at}
+use Rattle.blink_live.specs.{made_at}
 use Rattle.blink_map.specs.declared.map.Map.{Map}
 use Rattle.blink_map.specs.{IsSessionOf, place_of, seen_by}
 use Rattle.blink_grow.specs.declared.slots.Current.{Current}

@@ -1,5 +1,5 @@
 use Rattle.std.proofs.Common.{inl, sym, ap, ◌∙◌}
-use Rattle.blink_live.specs.Views.{SeatState}
+use Rattle.blink_live.specs.{SeatState}
 use Rattle.blink_map.proofs.change.come_back.Goals as goal
 
 pub mark_place-requires : goal.mark_place-requires

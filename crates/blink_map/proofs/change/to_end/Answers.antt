@@ -1,6 +1,6 @@
 use Rattle.std.proofs.Common.{◌<◌, ℕ, inr, sym, ◌∙◌, subst, arith}
 use Rattle.blink_machine.specs.{PlainMachine}
-use Rattle.blink_live.specs.Pendings.{IsWaiting}
+use Rattle.blink_live.specs.{IsWaiting}
 use Rattle.blink_map.specs.Changing.{HasSetOut}
 use Rattle.blink_map.proofs.MembersComeBack.{its_place, its_seat}
 use Rattle.blink_map.proofs.OperationsRest.{comes_to_rest, goes_on_from_rest, place_at_rest, seat_at_rest, steps_on}

@@ -1,5 +1,5 @@
 use Rattle.blink_batch.specs.declared.Op.{Op}
-use Rattle.blink_live.specs.Pendings.{IsWaiting}
+use Rattle.blink_live.specs.{IsWaiting}
 use Rattle.blink_map.specs.declared.member.Member.{Member}
 use Rattle.blink_map.specs.Changing.{HasSetOut}
 use Rattle.blink_map.proofs.change.to_end.Given as goal

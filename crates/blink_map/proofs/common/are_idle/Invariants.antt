@@ -1,7 +1,7 @@
 use Rattle.std.proofs.Common.{◌≡◌, ◌<◌, ℕ}
 use Rattle.std.specs.Prelude.{slice_index}
 use Rattle.std.specs.Mem.Slots.{slots_items}
-use Rattle.blink_live.specs.Words.{place_word}
+use Rattle.blink_live.specs.{place_word}
 use Rattle.blink_map.proofs.common.are_idle.Given as goal
 
 -- the words so far are 0

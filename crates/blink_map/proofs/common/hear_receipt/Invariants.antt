@@ -1,4 +1,4 @@
-use Rattle.blink_live.specs.Views.{plan_of}
+use Rattle.blink_live.specs.{plan_of}
 use Rattle.blink_map.proofs.common.hear_receipt.Given as goal
 
 abbrev pub ghosts-hear : goal.ghosts-hear

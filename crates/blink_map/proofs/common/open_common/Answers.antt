@@ -3,10 +3,7 @@ use Rattle.atomic_table.specs.Table.{opening}
 use Rattle.blink_rest.specs.{IsStoreAtRest}
 use Rattle.blink_rows.specs.{PlainCounts, AreBounded}
 use Rattle.blink_store.specs.{PlainStore, IsLawfulStore}
-use Rattle.blink_live.specs.Laid.{IsLaid}
-use Rattle.blink_live.specs.Rule.{IsTable}
-use Rattle.blink_live.specs.Views.{first_view}
-use Rattle.blink_live.specs.Words.{pool_page, pool_row}
+use Rattle.blink_live.specs.{IsLaid, IsTable, first_view, pool_page, pool_row}
 use Rattle.blink_live.proofs.Offered.{laid_common, opens, plan_over}
 use Rattle.blink_map.proofs.common.open_common.Goals as goal
 

@@ -6,8 +6,7 @@ use Rattle.blink_live.specs.declared.live.Live.{Live}
 use Rattle.blink_live.specs.declared.view.Account.{Account}
 use Rattle.blink_live.specs.declared.view.Plan.{Plan}
 use Rattle.blink_live.specs.declared.view.Role.{Role}
-use Rattle.blink_live.specs.Accounts.{AreApart, HaveAuthors, account_of, accounts_in, accounts_of}
-use Rattle.blink_live.specs.Views.{IsCommon, plan_of}
+use Rattle.blink_live.specs.{AreApart, HaveAuthors, IsCommon, account_of, accounts_in, accounts_of, plan_of}
 use Rattle.blink_map.proofs.common.settle_common.Goals as goal
 
 pub returns-clause-changes : goal.returns-clause-changes

@@ -1,4 +1,4 @@
-use Rattle.blink_live.specs.Views.{plan_of}
+use Rattle.blink_live.specs.{plan_of}
 use Rattle.blink_map.proofs.common.settle_with.Given as goal
 
 abbrev pub ghosts-take_account : goal.ghosts-take_account

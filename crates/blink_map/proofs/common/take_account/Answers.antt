@@ -2,8 +2,7 @@ use Rattle.std.proofs.Common.{◌≤◌, ℕ, sym, subst, arith}
 use Rattle.atomic_table.specs.Table.{Joins}
 use Rattle.blink_rows.specs.{PlainCounts}
 use Rattle.blink_live.specs.declared.view.Plan.{Plan}
-use Rattle.blink_live.specs.Rule.{IsTable}
-use Rattle.blink_live.specs.Views.{IsCommon, back_in, dealt_in, plan_of, spent, takes_account}
+use Rattle.blink_live.specs.{IsCommon, IsTable, back_in, dealt_in, plan_of, spent, takes_account}
 use Rattle.blink_live.proofs.Offered.{taking_account_keeps_table}
 use Rattle.blink_map.proofs.common.take_account.Goals as goal
 

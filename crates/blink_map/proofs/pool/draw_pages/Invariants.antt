@@ -1,5 +1,5 @@
 use Rattle.std.proofs.Common.{◌≡◌}
-use Rattle.blink_live.specs.Seats.{HasSameNumber}
+use Rattle.blink_live.specs.{HasSameNumber}
 use Rattle.blink_map.proofs.pool.draw_pages.Given as goal
 
 -- nothing is drawn yet

@@ -1,5 +1,5 @@
 use Rattle.std.proofs.Common.{◌+◌, arith}
-use Rattle.blink_live.specs.Allowed.{length_of}
+use Rattle.blink_live.specs.{length_of}
 use Rattle.blink_map.proofs.PartsOfThePool.{part_of_all}
 use Rattle.blink_map.proofs.pool.draw_rows.Goals as goal
 

@@ -4,10 +4,7 @@ use prog.Atomic.{either}
 use Rattle.atomic_table.specs.Table.{step, Allows}
 use Rattle.blink_rows.specs.{PlainCounts}
 use Rattle.blink_live.specs.declared.view.Plan.{Plan}
-use Rattle.blink_live.specs.AtomicSteps.{draws_rows}
-use Rattle.blink_live.specs.Rule.{IsTable}
-use Rattle.blink_live.specs.Views.{IsCommon, SeatState, plan_of}
-use Rattle.blink_live.specs.Words.{pool_row}
+use Rattle.blink_live.specs.{IsCommon, IsTable, SeatState, draws_rows, plan_of, pool_row}
 use Rattle.blink_live.proofs.Offered.{rows_are_drawn}
 use Rattle.blink_map.proofs.pool.exchange_rows.Goals as goal
 

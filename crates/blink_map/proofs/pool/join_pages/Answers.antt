@@ -4,9 +4,7 @@ use prog.Atomic.{either}
 use Rattle.atomic_table.specs.Table.{step, Allows}
 use Rattle.blink_rows.specs.{PlainCounts}
 use Rattle.blink_live.specs.declared.view.Plan.{Plan}
-use Rattle.blink_live.specs.Rule.{IsTable}
-use Rattle.blink_live.specs.Views.{IsCommon, SeatState, plan_of}
-use Rattle.blink_live.specs.Words.{pool_page}
+use Rattle.blink_live.specs.{IsCommon, IsTable, SeatState, plan_of, pool_page}
 use Rattle.blink_live.proofs.Offered.{pages_are_joined}
 use Rattle.blink_map.specs.Drawing.{joins_pages}
 use Rattle.blink_map.proofs.pool.join_pages.Goals as goal

@@ -1,5 +1,5 @@
 use Rattle.std.proofs.Common.{◌≡◌, ◌≤◌, Some}
-use Rattle.blink_live.specs.Shelves.{HasOtherStock, IsShelved, rows_on}
+use Rattle.blink_live.specs.{HasOtherStock, IsShelved, rows_on}
 use Rattle.blink_map.proofs.recycle.check_places.Given as goal
 
 abbrev pub invariant-loop : goal.invariant-loop

@@ -4,8 +4,7 @@ use Rattle.std.specs.Result.{is_err, is_ok}
 use Rattle.blink_rows.specs.declared.span.Span.{Span}
 use Rattle.blink_live.specs.declared.view.Plan.{Plan}
 use Rattle.blink_live.specs.declared.view.Stock.{Stock}
-use Rattle.blink_live.specs.ComingBack.{frees_last}
-use Rattle.blink_live.specs.Views.{IsCommon, SeatState, no_aside, span}
+use Rattle.blink_live.specs.{IsCommon, SeatState, frees_last, no_aside, span}
 use Rattle.blink_map.proofs.recycle.free_last.Goals as goal
 
 pub returns-then-rows-clause-other_rows : goal.returns-then-rows-clause-other_rows

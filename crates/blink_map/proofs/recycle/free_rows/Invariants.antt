@@ -1,6 +1,5 @@
 use Rattle.std.proofs.Common.{◌≡◌, ◌+◌, ◌≤◌, Some}
-use Rattle.blink_live.specs.Allowed.{length_of}
-use Rattle.blink_live.specs.Shelves.{HasOtherRows, IsShelved, rows_on}
+use Rattle.blink_live.specs.{HasOtherRows, IsShelved, length_of, rows_on}
 use Rattle.blink_map.proofs.recycle.free_rows.Given as goal
 
 abbrev pub invariant-loop : goal.invariant-loop

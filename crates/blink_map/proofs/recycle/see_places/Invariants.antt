@@ -1,5 +1,5 @@
 use Rattle.std.proofs.Common.{◌≡◌, ◌≤◌, Some, length}
-use Rattle.blink_live.specs.Shelves.{HasOtherStock, IsShelved, rows_on}
+use Rattle.blink_live.specs.{HasOtherStock, IsShelved, rows_on}
 use Rattle.blink_map.proofs.recycle.see_places.Given as goal
 
 abbrev pub invariant-loop-place : goal.invariant-loop-place

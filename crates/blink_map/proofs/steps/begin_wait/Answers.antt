@@ -1,5 +1,5 @@
 use Rattle.std.proofs.Common.{◌≤◌, arith}
-use Rattle.blink_live.specs.Views.{plan_of}
+use Rattle.blink_live.specs.{plan_of}
 use Rattle.blink_live.proofs.Offered.{begins_wait_at}
 use Rattle.blink_map.proofs.steps.begin_wait.Goals as goal
 

@@ -1,5 +1,5 @@
 use Rattle.std.proofs.Common.{◌≤◌, arith}
-use Rattle.blink_live.specs.Views.{plan_of}
+use Rattle.blink_live.specs.{plan_of}
 use Rattle.blink_live.proofs.Offered.{collects_at}
 use Rattle.blink_map.proofs.steps.collect.Goals as goal
 

@@ -1,6 +1,6 @@
 use Rattle.std.proofs.Common.{◌-◌, ◌≤◌, subst, arith}
 use Rattle.blink_rows.specs.{PlainCounts}
-use Rattle.blink_live.specs.Views.{plan_of}
+use Rattle.blink_live.specs.{plan_of}
 use Rattle.blink_live.proofs.Offered.{frees_row_at}
 use Rattle.blink_map.proofs.steps.free_row.Goals as goal
 

@@ -1,6 +1,6 @@
 use Rattle.std.proofs.Common.{◌≤◌, subst, arith}
 use Rattle.blink_rows.specs.{PlainCounts}
-use Rattle.blink_live.specs.Views.{plan_of}
+use Rattle.blink_live.specs.{plan_of}
 use Rattle.blink_live.proofs.Offered.{room_comes_back}
 use Rattle.blink_map.proofs.steps.give_back.Goals as goal
 

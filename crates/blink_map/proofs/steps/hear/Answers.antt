@@ -2,8 +2,7 @@ use Rattle.std.proofs.Common.{◌≤◌, sym, subst, arith}
 use Rattle.atomic_table.specs.Table.{Joins}
 use Rattle.blink_rows.specs.{PlainCounts}
 use Rattle.blink_live.specs.declared.view.Plan.{Plan}
-use Rattle.blink_live.specs.Rule.{IsTable}
-use Rattle.blink_live.specs.Views.{plan_of, hears, spent}
+use Rattle.blink_live.specs.{IsTable, hears, plan_of, spent}
 use Rattle.blink_live.proofs.Offered.{hearing_keeps_table}
 use Rattle.blink_map.proofs.steps.hear.Goals as goal
 

@@ -1,6 +1,6 @@
 use Rattle.std.proofs.Common.{◌≤◌, ap, sym, ◌∙◌, subst, ℕ, arith}
 use Rattle.blink_live.specs.declared.view.Plan.{Plan}
-use Rattle.blink_live.specs.Views.{IsCommon, back_in, dealt_in, plan_of}
+use Rattle.blink_live.specs.{IsCommon, back_in, dealt_in, plan_of}
 use Rattle.blink_live.proofs.Offered.{host_looks_up_prime}
 use Rattle.blink_map.proofs.steps.host_looks_up.Goals as goal
 

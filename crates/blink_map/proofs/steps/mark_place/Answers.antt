@@ -3,10 +3,7 @@ use mathlib.Core.Option.{none}
 use Rattle.atomic_table.specs.Table.{step, Allows}
 use Rattle.blink_rows.specs.{PlainCounts}
 use Rattle.blink_live.specs.declared.view.Plan.{Plan}
-use Rattle.blink_live.specs.AtomicSteps.{marks_place}
-use Rattle.blink_live.specs.Rule.{IsTable}
-use Rattle.blink_live.specs.Views.{SeatState, plan_of}
-use Rattle.blink_live.specs.Words.{place_word}
+use Rattle.blink_live.specs.{IsTable, SeatState, marks_place, place_word, plan_of}
 use Rattle.blink_live.proofs.Offered.{place_is_marked}
 use Rattle.blink_map.proofs.steps.mark_place.Goals as goal
 

@@ -2,10 +2,7 @@ use Rattle.std.proofs.Common.{◌≡◌, ℕ, ◌+◌, ◌*◌, ◌≤◌, ◌<�
 use mathlib.Core.Option.{none}
 use Rattle.atomic_table.specs.Table.{step, Allows}
 use Rattle.blink_live.specs.declared.view.Plan.{Plan}
-use Rattle.blink_live.specs.Rule.{IsTable}
-use Rattle.blink_live.specs.Views.{SeatState, plan_of}
-use Rattle.blink_live.specs.Words.{place_word}
-use Rattle.blink_live.specs.ComingBack.{sees_place}
+use Rattle.blink_live.specs.{IsTable, SeatState, place_word, plan_of, sees_place}
 use Rattle.blink_live.proofs.Offered.{sees_place_at}
 use Rattle.blink_map.proofs.steps.see_place.Goals as goal
 

@@ -1,4 +1,4 @@
-use Rattle.blink_map.specs.Putting.{HasTried}
+use Rattle.blink_map.specs.{HasTried}
 use Rattle.blink_map_client.proofs.counter.raise.Given as goal
 
 abbrev pub invariant-loop : goal.invariant-loop

@@ -6,8 +6,7 @@ use Rattle.blink_live.specs.declared.error.PassError.{PassError}
 use Rattle.blink_live.specs.declared.error.PassError.TheVariants.{NotYours, Spent}
 use Rattle.blink_live.specs.declared.live.Pass.{Pass}
 use Rattle.blink_live.specs.declared.live.Pending.{Pending}
-use Rattle.blink_live.specs.{keys_of}
-use Rattle.blink_live.specs.Allowed.{changes_left}
+use Rattle.blink_live.specs.{changes_left, keys_of}
 use Rattle.blink_owners.proofs.pass_owner.begin_by.Goals as goal
 
 -- when a call refuses

@@ -1,6 +1,5 @@
 use Rattle.std.proofs.Common.{◌≡◌, ◌+◌, ◌≤◌, ◌++◌, ℕ, List, drop, ap, sym, subst, ◌∙◌, arith}
-use Rattle.blink_page.specs.Rising.{Rises}
-use Rattle.blink_page.specs.{PlainPage, least_above, place_of}
+use Rattle.blink_page.specs.{PlainPage, Rises, least_above, place_of}
 use Rattle.blink_entries.proofs.StretchOfScan.{rises_from}
 use Rattle.blink_page.specs.declared.limits.TheConstants.{GREATEST_KEY}
 use Rattle.blink_entries.specs.Scan.{IsLinkOf, at_most, entries_after, entries_to}

@@ -1,7 +1,7 @@
 use Rattle.std.proofs.Common.{◌<◌, refl, sym, ap, ◌∙◌, subst}
 use Rattle.atomic_table.specs.Seated.{TableId}
 use Rattle.blink_batch.specs.{pointer_of}
-use Rattle.blink_live.specs.Changes.{after}
+use Rattle.blink_live.specs.{after}
 use Rattle.blink_map.specs.declared.map.Map.{Map}
 use Rattle.blink_map.specs.{opening_of, seen_by}
 use Rattle.blink_grow.proofs.CallsOfSessions.{authors_again, can_give, first_again, idle_again, made_same, saw_more, slots_again, tells}

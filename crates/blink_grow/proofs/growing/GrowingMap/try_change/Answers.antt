@@ -1,7 +1,7 @@
 use Rattle.std.proofs.Common.{◌<◌, refl, sym, ap, ◌∙◌, subst}
 use Rattle.atomic_table.specs.Seated.{TableId}
 use Rattle.blink_map.specs.declared.map.Map.{Map}
-use Rattle.blink_map.specs.Sessions.{IsAnswered}
+use Rattle.blink_map.specs.{IsAnswered}
 use Rattle.blink_grow.proofs.CallsOfSessions.{after_outcome, authors_again, can_give, first_again, has_tried, idle_again, in_order_all, key_fits, made_same, saw_more, slots_again}
 use Rattle.blink_grow.proofs.growing.GrowingMap.try_change.Goals as goal
 

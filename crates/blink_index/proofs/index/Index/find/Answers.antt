@@ -2,7 +2,7 @@ use Rattle.std.proofs.Common.{◌≤◌, ◌∙◌, sym, subst, arith}
 use Rattle.blink_page.specs.declared.limits.TheConstants.{GREATEST_KEY}
 use Rattle.blink_store.specs.{PlainStore}
 use Rattle.blink_rest.specs.{IsStoreAtRest}
-use Rattle.blink_entries.specs.Leaf.{IsLeafFor}
+use Rattle.blink_entries.specs.{IsLeafFor}
 use Rattle.blink_entries.proofs.Offered.{leaf_value, leaf_pointer}
 use Rattle.blink_index.proofs.index.Index.find.Goals as goal
 

@@ -8,7 +8,7 @@ use Rattle.blink_rest.specs.{IsMapOf, IsStoreAtRest, entries_from}
 use Rattle.blink_store.specs.{PlainStore}
 use Rattle.blink_entries.specs.Index.{map_of}
 use Rattle.blink_entries.specs.Packed.{IsInOrder, NeedsPages}
-use Rattle.blink_entries.specs.Packing.{AreEnough, AreLeaves, entries_in}
+use Rattle.blink_entries.specs.{AreEnough, AreLeaves, entries_in}
 use Rattle.blink_entries.proofs.Offered.{all_given, fewer_so_far, length-entries_from, needs_no_more, next_above, no_more_pages, number_for_entry, numbers_above, parts_more, scan_of_all, the_map_is_kept}
 use Rattle.blink_index.proofs.index.Index.repacked.Goals as goal
 

@@ -1,7 +1,7 @@
 use Rattle.std.proofs.Common.{◌≡◌, ◌++◌, length}
 use Rattle.blink_rest.specs.{entries_from}
 use Rattle.blink_entries.specs.Index.{map_of}
-use Rattle.blink_entries.specs.Packing.{AreLeaves, entries_in}
+use Rattle.blink_entries.specs.{AreLeaves, entries_in}
 use Rattle.blink_index.proofs.index.Index.repacked.Given as goal
 
 -- the entries that were scanned stand in the leaves, and the others are to come

@@ -6,7 +6,7 @@ use Rattle.blink_page.specs.{IsRising}
 use Rattle.blink_rest.specs.{entries_from, pairs_of}
 use Rattle.blink_rest.proofs.Offered.{entries_from-pairs_of}
 use Rattle.blink_entries.specs.Index.{map_of}
-use Rattle.blink_entries.specs.Packing.{entries_in}
+use Rattle.blink_entries.specs.{entries_in}
 use Rattle.blink_entries.proofs.Offered.{length-pairs_of, no_more_pages, number_for_entry, numbers_above, pairs_more, rising_at}
 use Rattle.blink_index.proofs.index.sorted.packed.Goals as goal
 

@@ -1,6 +1,6 @@
 use Rattle.std.proofs.Common.{◌≡◌, take}
 use Rattle.blink_rest.specs.{pairs_of}
-use Rattle.blink_entries.specs.Packing.{AreLeaves, entries_in}
+use Rattle.blink_entries.specs.{AreLeaves, entries_in}
 use Rattle.blink_index.proofs.index.sorted.packed.Given as goal
 
 -- so many entries stand in the leaves

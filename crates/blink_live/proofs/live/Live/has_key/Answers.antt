@@ -1,8 +1,7 @@
 use Rattle.std.proofs.Common.{◌≡◌, ◌≢◌, ◌<◌, ◌≤◌, inl, inr, ⊎_elim, ap, ◌∙◌, arith}
 use Rattle.std.specs.Prelude.{unwrap_or}
 use Rattle.std.proofs.lemmas.Bool.Decides.{nat_tests}
-use Rattle.blink_rows.specs.{page_words}
-use Rattle.blink_rows.specs.Row.{flag}
+use Rattle.blink_rows.specs.{flag, page_words}
 use Rattle.blink_live.specs.Views.{SeatState}
 use Rattle.blink_live.proofs.looked.SnapshotsGoOn.{floor_is_below}
 use Rattle.blink_live.proofs.live.Live.has_key.Goals as goal

@@ -1,7 +1,6 @@
 use Rattle.std.proofs.Common.{◌≡◌, ◌≢◌, ℕ, Option, Some, None, refl, sym, ap, ◌∙◌, arith}
 use Rattle.std.specs.Prelude.{unwrap_or}
-use Rattle.blink_rows.specs.{page_words}
-use Rattle.blink_rows.specs.Row.{flag}
+use Rattle.blink_rows.specs.{flag, page_words}
 use Rattle.blink_live.specs.Views.{SeatState}
 use Rattle.blink_live.proofs.live.Live.load_floor.Goals as goal
 

@@ -1,12 +1,11 @@
 use Rattle.std.proofs.Common.{◌≡◌, ℕ, refl, sym, ◌∙◌, subst}
 use Rattle.blink_machine.specs.{PlainMachine}
-use Rattle.blink_live.specs.Pendings.{IsWaiting}
+use Rattle.blink_live.specs.{IsUnderWay, IsWaiting}
 use Rattle.atomic_table.specs.declared.Seat.{Seat}
 use Rattle.blink_batch.specs.declared.Op.{Op}
 use Rattle.blink_live.specs.declared.live.Live.{Live}
 use Rattle.blink_live.specs.declared.room.Room.{Room as CallRoom}
 use Rattle.blink_live.specs.declared.view.View.{View}
-use Rattle.blink_live.specs.Updating.{IsUnderWay}
 use Rattle.blink_map.specs.declared.member.Member.{Member}
 use Rattle.blink_map.specs.declared.member.UnderWay.{UnderWay}
 use Rattle.blink_map.specs.Changing.{HasBeside, HasSetOut, IsAtWork}

@@ -1,6 +1,6 @@
 use Rattle.std.proofs.Common.{refl, inr, arith, subst, sym}
 use Rattle.blink_machine.specs.{PlainMachine}
-use Rattle.blink_live.specs.Pendings.{IsWaiting}
+use Rattle.blink_live.specs.{IsWaiting}
 use Rattle.blink_map.specs.Changing.{HasComeToRest, HasSetOut}
 use Rattle.blink_map.proofs.MembersComeBack.{its_place, its_seat}
 use Rattle.blink_map.proofs.OperationsRest.{comes_to_rest}

@@ -1,6 +1,6 @@
 use Rattle.std.proofs.Common.{Option, subst}
 use Rattle.blink_live.specs.declared.shelf.Shelf.{Shelf}
-use Rattle.blink_live.specs.Spares.{spare_on}
+use Rattle.blink_live.specs.{spare_on}
 use Rattle.blink_map.specs.Drawing.{KeepsNumbers}
 use Rattle.blink_map.proofs.member.Member.draw_pages.Goals as goal
 

@@ -2,9 +2,7 @@ use Rattle.std.proofs.Common.{◌≡◌, List, inl, refl, sym, ap, ◌∙◌, su
 use Rattle.blink_live.specs.declared.view.Change.{Change}
 use Rattle.blink_live.specs.declared.view.Plan.{Plan}
 use Rattle.blink_live.specs.declared.view.Share.{Share}
-use Rattle.blink_live.specs.Handles.{opening_of}
-use Rattle.blink_live.specs.Accounts.{KnowsAuthors}
-use Rattle.blink_live.specs.Views.{SeatState}
+use Rattle.blink_live.specs.{KnowsAuthors, SeatState, opening_of}
 use Rattle.blink_live.proofs.Offered.{shelved_so}
 use Rattle.blink_map.specs.Sessions.{AnswersAsSeen}
 use Rattle.blink_map.proofs.LooksOver.{can_look, found_as_seen, has_looked, is_still_its_seat}

@@ -3,9 +3,7 @@ use Rattle.blink_batch.specs.declared.Entry.{Entry}
 use Rattle.blink_live.specs.declared.view.Change.{Change}
 use Rattle.blink_live.specs.declared.view.Plan.{Plan}
 use Rattle.blink_live.specs.declared.view.Share.{Share}
-use Rattle.blink_live.specs.{IsReportBack, start_of}
-use Rattle.blink_live.specs.Accounts.{KnowsAuthors}
-use Rattle.blink_live.specs.Views.{SeatState}
+use Rattle.blink_live.specs.{IsReportBack, KnowsAuthors, SeatState, start_of}
 use Rattle.blink_live.proofs.Offered.{first_places, other_places, shelved_so}
 use Rattle.blink_map.proofs.LooksOver.{can_look, has_looked, is_still_its_seat}
 use Rattle.blink_map.proofs.member.Member.scan_back.Goals as goal

@@ -1,5 +1,5 @@
 use Rattle.std.proofs.Common.{refl, inr, ap, arith, subst}
-use Rattle.blink_live.specs.Views.{SeatState}
+use Rattle.blink_live.specs.{SeatState}
 use Rattle.blink_map.specs.Changing.{HasComeOut}
 use Rattle.blink_map.proofs.MembersComeBack.{gives, has_changed, is_idle_again, its_end, its_place, its_seat}
 use Rattle.blink_map.proofs.OperationsRest.{comes_to_rest}

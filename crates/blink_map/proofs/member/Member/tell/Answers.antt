@@ -1,7 +1,7 @@
 use Rattle.std.proofs.Common.{ap, subst, List}
 use mathlib.Core.List.{IsPrefix}
 use Rattle.blink_live.specs.declared.view.Change.{Change}
-use Rattle.blink_live.specs.Views.{SeatState}
+use Rattle.blink_live.specs.{SeatState}
 use Rattle.blink_live.proofs.Offered.{prefixes_of_one_list}
 use Rattle.blink_map.specs.Sessions.{seen_of_member}
 use Rattle.blink_map.proofs.member.Member.tell.Goals as goal

@@ -1,4 +1,4 @@
-use Rattle.blink_live.specs.Views.{pages_of, rows_of}
+use Rattle.blink_live.specs.{pages_of, rows_of}
 use Rattle.blink_map.specs.Changing.{HasDrawn}
 use Rattle.blink_map.specs.Places.{IsMemberOf}
 use Rattle.blink_map.specs.Sessions.{HasRoom}

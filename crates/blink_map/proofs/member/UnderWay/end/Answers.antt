@@ -1,6 +1,6 @@
 use Rattle.std.proofs.Common.{◌<◌, ◌≤◌, ℕ, sym, ap, subst, ◌∙◌}
 use Rattle.blink_rows.specs.declared.span.Span.{Span}
-use Rattle.blink_live.specs.Views.{SeatState, span}
+use Rattle.blink_live.specs.{SeatState, span}
 use Rattle.blink_map.proofs.MembersComeBack.{gives, has_changed, is_idle_again, its_end, its_place, its_seat}
 use Rattle.blink_map.proofs.member.UnderWay.end.Goals as goal
 

@@ -1,5 +1,5 @@
 use Rattle.std.proofs.Common.{◌≡◌, []}
-use Rattle.blink_live.specs.Views.{plan_of}
+use Rattle.blink_live.specs.{plan_of}
 use Rattle.blink_map.specs.Joining.{map_at}
 use Rattle.blink_map.proofs.places.Places.join.Given as goal
 

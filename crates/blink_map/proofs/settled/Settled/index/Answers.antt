@@ -9,9 +9,7 @@ use Rattle.blink_rows.specs.{PlainCounts}
 use Rattle.blink_store.specs.{PlainStore}
 use Rattle.blink_live.specs.declared.view.Change.{Change}
 use Rattle.blink_live.specs.declared.view.Plan.{Plan}
-use Rattle.blink_live.specs.Changes.{after}
-use Rattle.blink_live.specs.Merge.{KeepsTree}
-use Rattle.blink_live.specs.Words.{place_word}
+use Rattle.blink_live.specs.{KeepsTree, after, place_word}
 use Rattle.blink_live.proofs.Offered.{AreIdle, map_is, rests_at_end}
 use Rattle.blink_map.specs.declared.settled.Settled.{Settled}
 use Rattle.blink_map.specs.Common.{IsAfter}

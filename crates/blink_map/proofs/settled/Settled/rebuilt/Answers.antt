@@ -10,8 +10,7 @@ use Rattle.blink_page.specs.{IsBadFan}
 use Rattle.blink_page.specs.declared.limits.TheConstants.{MAX_FAN}
 use Rattle.blink_rows.specs.{PlainCounts}
 use Rattle.blink_live.specs.declared.view.Change.{Change}
-use Rattle.blink_live.specs.Changes.{after}
-use Rattle.blink_live.specs.Leaves.{KeepsLeaves}
+use Rattle.blink_live.specs.{KeepsLeaves, after}
 use Rattle.blink_live.proofs.Offered.{leaves_at_end}
 use Rattle.blink_map.specs.declared.settled.Settled.{Settled}
 use Rattle.blink_map.specs.Common.{AreEntriesAfter, IsAfter}

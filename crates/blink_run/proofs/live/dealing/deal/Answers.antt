@@ -1,6 +1,6 @@
 -- Keys that are free, with changes that are allowed, are refused only where memory is.
 use Rattle.std.proofs.Common.{Err, ap}
-use Rattle.blink_live.specs.Deals.IsDealRefusal.{taken, no_allowance, no_memory}
+use Rattle.blink_live.specs.IsDealRefusal.{taken, no_allowance, no_memory}
 use Rattle.blink_run.proofs.live.dealing.deal.Goals as goal
 
 pub unreachable-requires : goal.unreachable-requires

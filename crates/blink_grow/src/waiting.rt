@@ -1,0 +1,15 @@
+//! How often calls of a growing map try before they give up. None decides what a call answers, but whether it refuses with `Busy`.
+
+// How often a change renews the map. Once is enough, unless other sessions use up all the new room before the change is made. Each time
+// costs a copy of all entries.
+pub(crate) const RENEWALS: u32 = 8;
+
+// How often a renewal looks for a session that a call has, before it gives up. It yields the processor between two looks, and all calls
+// wait meanwhile.
+pub(crate) const RENEWAL_LOOKS: u32 = 1_000_000;
+
+// The same of a close, when nobody is in a call. So a session that isn't in its slot at the first look stays away.
+pub(crate) const CLOSE_LOOKS: u32 = 1;
+
+// How often a snapshot of all keys is tried for the copy. Nobody changes the map meanwhile.
+pub(crate) const COPY_TRIES: u32 = 1;
