@@ -112,21 +112,35 @@ fn scanning(index: &Index, keys: &[u64]) {
     let map = Map::open(index, Room { pages: 100, rows: 2 * 4_096 * THREADS as u32, sessions: 2 * THREADS as u32 }).expect("a map");
     let mut table = Table::open(index, 0, 0).expect("a table");
     let pass = table.deal(&[], 0, 0).expect("a pass");
-    let alone = |scan: &mut dyn FnMut(u64) -> u64| {
+    let turned: Vec<u64> = sorted.iter().rev().copied().collect();
+    let alone = |sorted: &[u64], scan: &mut dyn FnMut(u64) -> u64| {
         let start = Instant::now();
-        scans(&sorted, 1, SCANS, scan);
+        scans(sorted, 1, SCANS, scan);
         start.elapsed().as_nanos() as f64 / (SCANS * LENGTH) as f64
     };
     let (mut session, mut pass) = (map.session().expect("a session"), pass);
-    measure(
-        "a scan of 1,000 of 40,000 entries, an entry",
-        vec![
-            ("session", Box::new(|| alone(&mut |from| sum(session.range(from..))))),
-            ("pass", Box::new(|| alone(&mut |from| sum(pass.range(from..))))),
-            ("index", Box::new(|| alone(&mut |from| sum(index.range(from..))))),
-            ("BTreeMap", Box::new(|| alone(&mut |from| by_tree(&tree, from)))),
-        ],
-    );
+    for records in ["no records", "records half as many as there is room for"] {
+        measure(
+            &format!("a scan of 1,000 of 40,000 entries, an entry; leaves of the map have {records}"),
+            vec![
+                ("session", Box::new(|| alone(&sorted, &mut |from| sum(session.range(from..))))),
+                ("pass", Box::new(|| alone(&sorted, &mut |from| sum(pass.range(from..))))),
+                ("index", Box::new(|| alone(&sorted, &mut |from| sum(index.range(from..))))),
+                ("BTreeMap", Box::new(|| alone(&sorted, &mut |from| by_tree(&tree, from)))),
+            ],
+        );
+        measure(
+            "the same backwards",
+            vec![
+                ("session", Box::new(|| alone(&turned, &mut |to| sum(session.range(..=to).rev())))),
+                ("pass", Box::new(|| alone(&turned, &mut |to| sum(pass.range(..=to).rev())))),
+                ("index", Box::new(|| alone(&turned, &mut |to| sum(index.range(..=to).rev())))),
+                ("BTreeMap", Box::new(|| alone(&turned, &mut |to| sum(tree.range(..=to).rev().map(|(&key, &pointer)| (key, pointer)))))),
+            ],
+        );
+        // Keys in no order, so a leaf's log is anything between empty and full afterwards.
+        keys.iter().for_each(|&key| _ = session.replace(key, !key).expect("rows"));
+    }
     drop(session);
     let tree = RwLock::new(tree);
     for writers in [0, THREADS] {
@@ -220,6 +234,11 @@ pub fn changes() {
             scans(&sorted, thread, SCANS / threads, |from| sum(session.range(from..)));
         });
         println!("a scan of 1,000 entries, an entry, {threads} threads\t{scan:.2}");
+        sorted.reverse();
+        let back = timed(sessions_of(&map), SCANS * LENGTH, |mut session, thread| {
+            scans(&sorted, thread, SCANS / threads, |to| sum(session.range(..=to).rev()));
+        });
+        println!("the same backwards, {threads} threads\t{back:.2}");
         let empty = Map::open(&Index::new(32).expect("an index"), room(20_000)).expect("a map");
         let insertion = timed(sessions_of(&empty), keys.len(), |mut session, thread| {
             own(thread).for_each(|key| _ = session.insert(key, !key).expect("room"));
