@@ -19,15 +19,15 @@
  * of another type, which takes a cast; one handle as two parameters; two calls at once by one handle; and NULL for a handle, an array or a
  * result.
  *
- * Threads. One call at a time uses a handle, but several threads at once may call blink_map_join, blink_map_share and blink_map_room
- * with one handle of a map, which wait for each other. Any thread may use a handle; one gives it to another by what orders memory
- * between the two: a lock, a start or join of a thread, or an atomic that one stores with release order, at least, and the other loads with
- * acquire order. Different handles may be used by different threads at the same time, also readers of one index; passes of one table,
- * and the table itself; or sessions of one map, and the map itself. No call waits for another thread, but those three and the inline
- * functions at the end. None may be called from a signal handler, or in a forked child of a process with threads. Tested: what a thread
- * wrote before a call of a pass or a session that stores a pointer is seen by whoever gets this pointer from a call of another one, by a
- * find, a glance, a scan, a snapshot or a change. So a pointer may be the address of a record, which isn't changed from then on but by what
- * orders memory itself.
+ * Threads. One call at a time uses a handle, also one that takes it as const, which leaves what the handle has as it was. Several threads
+ * at once may call blink_map_join, blink_map_share and blink_map_room with one handle of a map, which wait for each other. Any thread may
+ * use a handle; one gives it to another by what orders memory between the two: a lock, a start or join of a thread, or an atomic that one
+ * stores with release order, at least, and the other loads with acquire order. Different handles may be used by different threads at the
+ * same time, also readers of one index; passes of one table, and the table itself; or sessions of one map, and the map itself. No call
+ * waits for another thread, but those three and the inline functions at the end. None may be called from a signal handler, or in a forked
+ * child of a process with threads. Tested: what a thread wrote before a call of a pass or a session that stores a pointer is seen by
+ * whoever gets this pointer from a call of another one, by a find, a glance, a scan, a snapshot or a change. So a pointer may be the
+ * address of a record, which isn't changed from then on but by what orders memory itself.
  *
  * No call has a cancellation point, so a thread that may be cancelled, but not at any time, ends behind its call. One that ends within a
  * call, cancelled at any time or by a jump out of a signal handler, leaves its handle as if it were never freed, and may leave a page
@@ -75,9 +75,17 @@ typedef struct { uint64_t kind, key, pointer; } blink_operation;
 /* An answer. The pointer is 0 where the answer tells none. */
 typedef struct { uint64_t kind, pointer; } blink_answer;
 
-/* How far a scan of a pass or a session came. It filled so many places of its array, from the first on. `more` is 1 if the array was
- * full before the end of the range: then another scan goes on from the key `next`, which is its `lo`, or backwards its `hi`. At the end
- * of the range both are 0. */
+/* How far a scan came. It filled so many places of its array, from the first on. `more` is 1 if the array was full before the end of the
+ * range: then another scan goes on from the key `next`, which is its `lo`, or backwards its `hi`. At the end of the range both are 0. So
+ * all entries of a range come by
+ *
+ *     for (blink_scanned s = {0, 1, lo}; s.more;) {
+ *         blink_index_scan(&index, s.next, hi, entries, places, &s);
+ *         // entries[0] to entries[s.filled - 1]
+ *     }
+ *
+ * with one place at least; and so of a reader, a pass and a session; and backwards by `s = {0, 1, hi}` and
+ * blink_index_scan_back(&index, lo, s.next, ..). */
 typedef struct { uint64_t filled, more, next; } blink_scanned;
 
 /* What became of a snapshot. `taken` is 1 if it was taken, and then `there` is the number of its entries; else both are 0. */
@@ -232,7 +240,7 @@ int blink_index_from_entries(uint8_t fan, const blink_entry *entries, size_t cou
 int blink_index_from_sorted(uint8_t fan, const blink_entry *entries, size_t count, blink_index *out, size_t *bad_place);
 
 /* Makes a copy, page by page. Refused: BLINK_NO_MEMORY. */
-int blink_index_copy(blink_index *index, blink_index *out);
+int blink_index_copy(const blink_index *index, blink_index *out);
 
 /* Runs operations one after another, and gives the answer of each at its place. It works on a copy of the index, which then takes
  * its place: so run many at once. Refused, looked for in this order: BLINK_WRONG_LENGTH, if there aren't as many places for
@@ -273,54 +281,54 @@ int blink_index_apply(blink_index *index, const blink_operation *operations, siz
 int blink_index_compact(blink_index *index);
 
 /* Looks a key up: true, and its record pointer; or false, and `pointer` stays as it was. */
-bool blink_index_find(blink_index *index, uint64_t key, uint64_t *pointer);
+bool blink_index_find(const blink_index *index, uint64_t key, uint64_t *pointer);
 
 /* Looks keys up, and gives the answer of each at its place, BLINK_FOUND or BLINK_ABSENT. Refused: BLINK_WRONG_LENGTH, exactly if
  * there aren't as many places as keys. */
-int blink_index_find_many(blink_index *index, const uint64_t *keys, size_t count, blink_answer *answers, size_t places);
+int blink_index_find_many(const blink_index *index, const uint64_t *keys, size_t count, blink_answer *answers, size_t places);
 
-/* Gives the entries with keys from `lo` to `hi`, both included, in ascending order, as many as there are places. It returns how
- * many there are, and stores how many fitted. The other places stay as they were. Where `lo` is above `hi` there are none, here as in each
- * scan and snapshot below. */
-size_t blink_index_scan(blink_index *index, uint64_t lo, uint64_t hi, blink_entry *entries, size_t places, size_t *fitted);
+/* Gives the entries with keys from `lo` to `hi`, both included, in ascending order, as many as there are places, and tells how far it
+ * came; `next` is the key of the first entry for which there was no place. The other places stay as they were. Where `lo` is above `hi`
+ * there are none, here as in each scan and snapshot below. It looks at no further entry, so the first `n` entries from a key on cost what
+ * they are. It is never refused. */
+int blink_index_scan(const blink_index *index, uint64_t lo, uint64_t hi, blink_entry *entries, size_t places, blink_scanned *scanned);
 
-/* The same for the first `n` entries with keys from `lo` on, or all of these if they are fewer. It returns at most `n`. */
-size_t blink_index_page(blink_index *index, uint64_t lo, uint64_t n, blink_entry *entries, size_t places, size_t *fitted);
+/* The same in descending order. */
+int blink_index_scan_back(const blink_index *index, uint64_t lo, uint64_t hi, blink_entry *entries, size_t places, blink_scanned *scanned);
 
-/* The same two for the entries from the greatest key down: those from `hi` to `lo`, and the last `n` with keys up to `hi`. */
-size_t blink_index_scan_back(blink_index *index, uint64_t lo, uint64_t hi, blink_entry *entries, size_t places, size_t *fitted);
-size_t blink_index_page_back(blink_index *index, uint64_t hi, uint64_t n, blink_entry *entries, size_t places, size_t *fitted);
+/* Returns the number of the entries with keys from `lo` to `hi`, both included. It walks their leaves. */
+size_t blink_index_count(const blink_index *index, uint64_t lo, uint64_t hi);
 
 /* Gives the entry with the least key: true; or false, if there is no entry, and `entry` stays as it was. */
-bool blink_index_first(blink_index *index, blink_entry *entry);
+bool blink_index_first(const blink_index *index, blink_entry *entry);
 
 /* The same for the entry with the greatest key. */
-bool blink_index_last(blink_index *index, blink_entry *entry);
+bool blink_index_last(const blink_index *index, blink_entry *entry);
 
 /* The same for the entry with the least key above this one. */
-bool blink_index_next(blink_index *index, uint64_t key, blink_entry *entry);
+bool blink_index_next(const blink_index *index, uint64_t key, blink_entry *entry);
 
 /* The same for the entry with the greatest key below this one. */
-bool blink_index_prev(blink_index *index, uint64_t key, blink_entry *entry);
+bool blink_index_prev(const blink_index *index, uint64_t key, blink_entry *entry);
 
 /* The same for the entry with the least key from this one on. */
-bool blink_index_at_least(blink_index *index, uint64_t key, blink_entry *entry);
+bool blink_index_at_least(const blink_index *index, uint64_t key, blink_entry *entry);
 
 /* The same for the entry with the greatest key up to this one. */
-bool blink_index_at_most(blink_index *index, uint64_t key, blink_entry *entry);
+bool blink_index_at_most(const blink_index *index, uint64_t key, blink_entry *entry);
 
 /* The number of entries, which the index keeps. */
-size_t blink_index_len(blink_index *index);
+size_t blink_index_len(const blink_index *index);
 
 /* The number of pages, at least 1. */
-uint32_t blink_index_pages(blink_index *index);
+uint32_t blink_index_pages(const blink_index *index);
 
 /* The greatest number of entries in a page. */
-uint8_t blink_index_fan(blink_index *index);
+uint8_t blink_index_fan(const blink_index *index);
 
 /* Gives the tree as text, a line a page, if all of it fits, and stores how many bytes it has; it ends without a zero byte.
  * docs/FORMATS.md has the format. Refused: BLINK_NO_MEMORY; then `text` and `bytes` are as they were. */
-int blink_index_dump(blink_index *index, uint8_t *text, size_t places, size_t *bytes);
+int blink_index_dump(const blink_index *index, uint8_t *text, size_t places, size_t *bytes);
 
 /* Frees the index. */
 void blink_index_free(blink_index index);
@@ -339,7 +347,7 @@ int blink_index_share(blink_index *index, blink_reader *out);
 
 /* Gives one more reader of the same index, for another thread. No entry is copied: it takes memory for the handle and for an index
  * without an entry. Refused: BLINK_NO_MEMORY. */
-int blink_reader_join(blink_reader *reader, blink_reader *out);
+int blink_reader_join(const blink_reader *reader, blink_reader *out);
 
 /* Gives the index back, as it was when it was shared, if no other reader has it. The handle `reader` is empty then. No entry is copied,
  * and it takes no memory. Refused: BLINK_SHARED, and then the reader is as it was. Tested: it is BLINK_SHARED if another reader of the
@@ -347,22 +355,21 @@ int blink_reader_join(blink_reader *reader, blink_reader *out);
 int blink_reader_unshare(blink_reader *reader, blink_index *out);
 
 /* Read the index. Each gives, returns and refuses what the call of the index does that has the same name, as blink_index_find. */
-bool blink_reader_find(blink_reader *reader, uint64_t key, uint64_t *pointer);
-int blink_reader_find_many(blink_reader *reader, const uint64_t *keys, size_t count, blink_answer *answers, size_t places);
-size_t blink_reader_scan(blink_reader *reader, uint64_t lo, uint64_t hi, blink_entry *entries, size_t places, size_t *fitted);
-size_t blink_reader_page(blink_reader *reader, uint64_t lo, uint64_t n, blink_entry *entries, size_t places, size_t *fitted);
-size_t blink_reader_scan_back(blink_reader *reader, uint64_t lo, uint64_t hi, blink_entry *entries, size_t places, size_t *fitted);
-size_t blink_reader_page_back(blink_reader *reader, uint64_t hi, uint64_t n, blink_entry *entries, size_t places, size_t *fitted);
-bool blink_reader_first(blink_reader *reader, blink_entry *entry);
-bool blink_reader_last(blink_reader *reader, blink_entry *entry);
-bool blink_reader_next(blink_reader *reader, uint64_t key, blink_entry *entry);
-bool blink_reader_prev(blink_reader *reader, uint64_t key, blink_entry *entry);
-bool blink_reader_at_least(blink_reader *reader, uint64_t key, blink_entry *entry);
-bool blink_reader_at_most(blink_reader *reader, uint64_t key, blink_entry *entry);
-size_t blink_reader_len(blink_reader *reader);
-uint32_t blink_reader_pages(blink_reader *reader);
-uint8_t blink_reader_fan(blink_reader *reader);
-int blink_reader_dump(blink_reader *reader, uint8_t *text, size_t places, size_t *bytes);
+bool blink_reader_find(const blink_reader *reader, uint64_t key, uint64_t *pointer);
+int blink_reader_find_many(const blink_reader *reader, const uint64_t *keys, size_t count, blink_answer *answers, size_t places);
+int blink_reader_scan(const blink_reader *reader, uint64_t lo, uint64_t hi, blink_entry *entries, size_t places, blink_scanned *scanned);
+int blink_reader_scan_back(const blink_reader *reader, uint64_t lo, uint64_t hi, blink_entry *entries, size_t places, blink_scanned *scanned);
+size_t blink_reader_count(const blink_reader *reader, uint64_t lo, uint64_t hi);
+bool blink_reader_first(const blink_reader *reader, blink_entry *entry);
+bool blink_reader_last(const blink_reader *reader, blink_entry *entry);
+bool blink_reader_next(const blink_reader *reader, uint64_t key, blink_entry *entry);
+bool blink_reader_prev(const blink_reader *reader, uint64_t key, blink_entry *entry);
+bool blink_reader_at_least(const blink_reader *reader, uint64_t key, blink_entry *entry);
+bool blink_reader_at_most(const blink_reader *reader, uint64_t key, blink_entry *entry);
+size_t blink_reader_len(const blink_reader *reader);
+uint32_t blink_reader_pages(const blink_reader *reader);
+uint8_t blink_reader_fan(const blink_reader *reader);
+int blink_reader_dump(const blink_reader *reader, uint8_t *text, size_t places, size_t *bytes);
 
 /* Frees the reader. Tested: the last one frees the index. */
 void blink_reader_free(blink_reader reader);
@@ -378,15 +385,15 @@ void blink_reader_free(blink_reader reader);
 /* Opens a table over the index, which stays as it is, with room for so many insertions and deletions; a replacement or an
  * exchange uses a deletion. It is made of the two exports below. Refused: BLINK_TABLE_TOO_LARGE, exactly if 1 + pages + 22 for each
  * insertion is above 1,048,576; BLINK_NO_MEMORY. */
-static inline int blink_table_open(blink_index *index, uint32_t inserts, uint32_t deletes, blink_table *out);
+static inline int blink_table_open(const blink_index *index, uint32_t inserts, uint32_t deletes, blink_table *out);
 
 /* Opens a table whose number is 0, and stores its place, at which no other table lies while it or a pass of it lives; and gives a table
  * its number. Passes get the number when they are dealt, and by it passes of two tables are told apart. So whoever calls these, as a
  * program in another language, names each table by its place before it deals. Refused: as blink_table_open. */
-int blink_table_open_unnamed(blink_index *index, uint32_t inserts, uint32_t deletes, blink_table *out, uint64_t *place);
+int blink_table_open_unnamed(const blink_index *index, uint32_t inserts, uint32_t deletes, blink_table *out, uint64_t *place);
 void blink_table_name(blink_table *table, uint64_t number);
 
-static inline int blink_table_open(blink_index *index, uint32_t inserts, uint32_t deletes, blink_table *out) {
+static inline int blink_table_open(const blink_index *index, uint32_t inserts, uint32_t deletes, blink_table *out) {
     uint64_t place;
     int code = blink_table_open_unnamed(index, inserts, deletes, out, &place);
     if (code == BLINK_DONE) blink_table_name(out, place);
@@ -517,15 +524,15 @@ void blink_pass_free(blink_pass pass);
  * row comes back, and a change may be refused with BLINK_ROWS_BUSY, and let through later. Refused: BLINK_BAD_SESSIONS, exactly if there
  * are to be none or more than 256; then BLINK_MAP_TOO_LARGE, exactly if the index's pages and `pages` are above 1,048,575;
  * BLINK_NO_MEMORY. */
-static inline int blink_map_open(blink_index *index, uint32_t pages, uint32_t rows, uint32_t sessions, blink_map *out);
+static inline int blink_map_open(const blink_index *index, uint32_t pages, uint32_t rows, uint32_t sessions, blink_map *out);
 
 /* Opens a map whose number is 0, and stores its place, at which no other map lies while it or a session of it lives; and gives a map its
  * number. Sessions get the number when they join, and by it sessions of two maps are told apart. So whoever calls these, as a program in
  * another language, names each map by its place before a session joins. Refused: as blink_map_open. */
-int blink_map_open_unnamed(blink_index *index, uint32_t pages, uint32_t rows, uint32_t sessions, blink_map *out, uint64_t *place);
+int blink_map_open_unnamed(const blink_index *index, uint32_t pages, uint32_t rows, uint32_t sessions, blink_map *out, uint64_t *place);
 void blink_map_name(blink_map *map, uint64_t number);
 
-static inline int blink_map_open(blink_index *index, uint32_t pages, uint32_t rows, uint32_t sessions, blink_map *out) {
+static inline int blink_map_open(const blink_index *index, uint32_t pages, uint32_t rows, uint32_t sessions, blink_map *out) {
     uint64_t place;
     int code = blink_map_open_unnamed(index, pages, rows, sessions, out, &place);
     if (code == BLINK_DONE) blink_map_name(out, place);
@@ -537,7 +544,7 @@ static inline int blink_map_open(blink_index *index, uint32_t pages, uint32_t ro
  * a leaf splits again once half of a page has been inserted into it. Random keys take about two thirds of these page numbers. Beside them,
  * each session gets 534, since it may have drawn so many and not used them. With their rows they take 0.8 MB, whether the session is there or
  * not. What is too large, blink_map_open refuses. */
-static inline void blink_room_for(blink_index *index, uint32_t insertions, uint32_t sessions, uint32_t *pages, uint32_t *rows) {
+static inline void blink_room_for(const blink_index *index, uint32_t insertions, uint32_t sessions, uint32_t *pages, uint32_t *rows) {
     uint64_t half = (blink_index_fan(index) + 1u) / 2; /* so many insertions fill the half that a split leaves */
     uint64_t leaves = blink_index_pages(index) + insertions / half;
     /* the levels above, a new root for each level, and what sessions have drawn and not used */
@@ -667,7 +674,7 @@ int blink_session_tell(blink_session *from, blink_session *to);
 
 /* Tells what the session has of page numbers and rows, for a look; blink_map_room tells what the pool has left. It changes
  * nothing. Refused: BLINK_PENDING; then `reserve` stays as it was. */
-int blink_session_reserve(blink_session *session, blink_reserve *reserve);
+int blink_session_reserve(const blink_session *session, blink_reserve *reserve);
 
 /* Frees the handle. Tested: a session leaves its map by it, and its place can be taken again. An operation or a put under way goes on to
  * its end before; only a put may be left undone, where the session has no room for its other half. If it still waits for other sessions

@@ -14,8 +14,10 @@
 #endif
 
 #include "blink.h"
+#include <algorithm>
 #include <cstddef>
 #include <cstdint>
+#include <limits>
 #include <optional>
 #include <stdexcept>
 #include <string>
@@ -82,24 +84,26 @@ inline std::optional<Pointer> pointer_of(const Answer &answer) {
     return answer.pointer;
 }
 
-// All entries of a range, part by part.
-template <class H, class Scan> std::vector<Entry> scanned(H *handle, Scan scan, Key lo, Key hi) {
-    std::vector<Entry> entries, part(256);
-    for (blink_scanned end{0, 1, lo}; end.more;) {
-        check(scan(handle, end.next, hi, part.data(), part.size(), &end));
+// The first entries of a scan, part by part. It goes on from the key that a part tells: `next(key, places, size, end)` scans from there.
+template <class Next> std::vector<Entry> parts(Key from, std::uint64_t most, Next next) {
+    std::vector<Entry> entries, part(static_cast<std::size_t>(std::min<std::uint64_t>(most, 256)));
+    for (blink_scanned end{0, 1, from}; end.more && entries.size() < most;) {
+        std::size_t places = static_cast<std::size_t>(std::min<std::uint64_t>(most - entries.size(), part.size()));
+        check(next(end.next, part.data(), places, &end));
         entries.insert(entries.end(), part.begin(), part.begin() + static_cast<std::ptrdiff_t>(end.filled));
     }
     return entries;
 }
 
-// The same from the greatest key down.
-template <class H, class Scan> std::vector<Entry> scanned_back(H *handle, Scan scan, Key lo, Key hi) {
-    std::vector<Entry> entries, part(256);
-    for (blink_scanned end{0, 1, hi}; end.more;) {
-        check(scan(handle, lo, end.next, part.data(), part.size(), &end));
-        entries.insert(entries.end(), part.begin(), part.begin() + static_cast<std::ptrdiff_t>(end.filled));
-    }
-    return entries;
+// The greatest key, and a number of entries that no range has.
+constexpr std::uint64_t no_end = std::numeric_limits<std::uint64_t>::max();
+
+// The first entries of a range, or the last, as many as `most` at most.
+template <class H, class Scan> std::vector<Entry> scanned(H *handle, Scan scan, Key lo, Key hi, std::uint64_t most = no_end) {
+    return parts(lo, most, [=](Key from, Entry *part, std::size_t places, blink_scanned *end) { return scan(handle, from, hi, part, places, end); });
+}
+template <class H, class Scan> std::vector<Entry> scanned_back(H *handle, Scan scan, Key lo, Key hi, std::uint64_t most = no_end) {
+    return parts(hi, most, [=](Key from, Entry *part, std::size_t places, blink_scanned *end) { return scan(handle, lo, from, part, places, end); });
 }
 
 // All entries of a range at one time, or none where each try was in vain.
@@ -122,9 +126,8 @@ template <> struct Calls<blink_index> {
     static constexpr auto find = blink_index_find;
     static constexpr auto find_many = blink_index_find_many;
     static constexpr auto scan = blink_index_scan;
-    static constexpr auto page = blink_index_page;
     static constexpr auto scan_back = blink_index_scan_back;
-    static constexpr auto page_back = blink_index_page_back;
+    static constexpr auto count = blink_index_count;
     static constexpr auto first = blink_index_first;
     static constexpr auto last = blink_index_last;
     static constexpr auto next = blink_index_next;
@@ -141,9 +144,8 @@ template <> struct Calls<blink_reader> {
     static constexpr auto find = blink_reader_find;
     static constexpr auto find_many = blink_reader_find_many;
     static constexpr auto scan = blink_reader_scan;
-    static constexpr auto page = blink_reader_page;
     static constexpr auto scan_back = blink_reader_scan_back;
-    static constexpr auto page_back = blink_reader_page_back;
+    static constexpr auto count = blink_reader_count;
     static constexpr auto first = blink_reader_first;
     static constexpr auto last = blink_reader_last;
     static constexpr auto next = blink_reader_next;
@@ -171,13 +173,15 @@ public:
         return answers;
     }
     // The entries with keys from lo to hi, both included.
-    std::vector<Entry> scan(Key lo, Key hi) { return range(Calls<H>::scan, lo, hi); }
+    std::vector<Entry> scan(Key lo, Key hi) { return scanned(handle(), Calls<H>::scan, lo, hi); }
     // The same from hi down to lo.
-    std::vector<Entry> scan_back(Key lo, Key hi) { return range(Calls<H>::scan_back, lo, hi); }
+    std::vector<Entry> scan_back(Key lo, Key hi) { return scanned_back(handle(), Calls<H>::scan_back, lo, hi); }
     // The first n entries with keys from lo on, or all of these if they are fewer.
-    std::vector<Entry> page(Key lo, std::uint64_t n) { return some(Calls<H>::page, lo, n); }
+    std::vector<Entry> page(Key lo, std::uint64_t n) { return scanned(handle(), Calls<H>::scan, lo, no_end, n); }
     // The last n entries with keys up to hi, the greatest first, or all of these if they are fewer.
-    std::vector<Entry> page_back(Key hi, std::uint64_t n) { return some(Calls<H>::page_back, hi, n); }
+    std::vector<Entry> page_back(Key hi, std::uint64_t n) { return scanned_back(handle(), Calls<H>::scan_back, 0, hi, n); }
+    // How many entries have keys from lo to hi, both included.
+    std::size_t count(Key lo, Key hi) { return Calls<H>::count(&handle_, lo, hi); }
     std::optional<Entry> first() {
         Entry entry{0, 0};
         return Calls<H>::first(&handle_, &entry) ? std::optional(entry) : std::nullopt;
@@ -211,22 +215,7 @@ protected:
     Handle<H, Calls<H>::free> handle_;
 
 private:
-    using Part = std::size_t (*)(H *, std::uint64_t, std::uint64_t, Entry *, std::size_t, std::size_t *);
-    std::vector<Entry> range(Part call, Key lo, Key hi) {
-        std::vector<Entry> entries(256);
-        std::size_t fitted = 0, there = call(&handle_, lo, hi, entries.data(), entries.size(), &fitted);
-        entries.resize(there);
-        if (fitted < there) call(&handle_, lo, hi, entries.data(), entries.size(), &fitted);
-        return entries;
-    }
-    std::vector<Entry> some(Part call, Key from, std::uint64_t n) {
-        std::vector<Entry> entries;
-        std::size_t fitted = 0;
-        entries.resize(call(&handle_, from, n, place_of(entries), 0, &fitted));
-        call(&handle_, from, n, place_of(entries), entries.size(), &fitted);
-        return entries;
-    }
-    std::optional<Entry> near(bool (*call)(H *, std::uint64_t, Entry *), Key key) {
+    std::optional<Entry> near(bool (*call)(const H *, std::uint64_t, Entry *), Key key) {
         Entry entry{0, 0};
         return call(&handle_, key, &entry) ? std::optional(entry) : std::nullopt;
     }

@@ -98,10 +98,9 @@ def _declared():
     for it in "index", "reader":
         yield f"blink_{it}_find", truth, handle, u64, keys
         yield f"blink_{it}_find_many", CODE, handle, keys, size, answer, size
-        yield f"blink_{it}_scan", size, handle, u64, u64, entry, size, sizes
-        yield f"blink_{it}_page", size, handle, u64, u64, entry, size, sizes
-        yield f"blink_{it}_scan_back", size, handle, u64, u64, entry, size, sizes
-        yield f"blink_{it}_page_back", size, handle, u64, u64, entry, size, sizes
+        yield f"blink_{it}_scan", CODE, handle, u64, u64, entry, size, scanned
+        yield f"blink_{it}_scan_back", CODE, handle, u64, u64, entry, size, scanned
+        yield f"blink_{it}_count", size, handle, u64, u64
         yield f"blink_{it}_first", truth, handle, entry
         yield f"blink_{it}_last", truth, handle, entry
         yield f"blink_{it}_next", truth, handle, u64, entry
@@ -216,6 +215,9 @@ def _pairs(entries, count):
     return [(entry.key, entry.pointer) for entry in itertools.islice(entries, count)]
 
 
+_MOST = 2**64 - 1
+
+
 class _Owner:
     """What has a handle. `_kind` is the word of its functions."""
 
@@ -235,6 +237,23 @@ class _Owner:
         with self._lock:
             self._is_open()
             return getattr(_library, f"blink_{self._kind}_{name}")(self._handle, *values)
+
+    def _scan(self, lo, hi, most=_MOST):
+        """The first entries of a range, at most so many, part by part."""
+        return self._parts(lo, most, lambda key, *part: self._call("scan", key, hi, *part))
+
+    def _scan_back(self, lo, hi, most=_MOST):
+        """The last ones, the greatest first."""
+        return self._parts(hi, most, lambda key, *part: self._call("scan_back", lo, key, *part))
+
+    def _parts(self, key, most, scan):
+        """What `scan` gives from a key on, and then from each key that it tells."""
+        found, part, end = [], (_Entry * min(most, 256))(), _Scanned(0, 1, key)
+        with self._lock:
+            while end.more and len(found) < most:
+                _check(scan(end.next, part, min(most - len(found), len(part)), end))
+                found += _pairs(part, end.filled)
+        return found
 
     def _is_open(self):
         if not self._handle.at:
@@ -306,27 +325,23 @@ class _Reads(_Owner):
 
     def scan(self, lo, hi):
         """The entries with keys from lo to hi, both included, as pairs."""
-        return self._part("scan", _number(lo), _number(hi))
+        return self._scan(_number(lo), _number(hi))
 
     def page(self, lo, n):
         """The first n entries with keys from lo on, or all of these if they are fewer."""
-        return self._part("page", _number(lo), _number(n))
+        return self._scan(_number(lo), _MOST, _number(n))
 
     def scan_back(self, lo, hi):
         """The entries with keys from hi down to lo, both included, as pairs."""
-        return self._part("scan_back", _number(lo), _number(hi))
+        return self._scan_back(_number(lo), _number(hi))
 
     def page_back(self, hi, n):
         """The last n entries with keys up to hi, the greatest first, or all of these if they are fewer."""
-        return self._part("page_back", _number(hi), _number(n))
+        return self._scan_back(0, _number(hi), _number(n))
 
-    def _part(self, name, lo, hi):
-        fitted = ctypes.c_size_t()
-        with self._lock:
-            there = self._call(name, lo, hi, (_Entry * 0)(), 0, fitted)
-            entries = (_Entry * there)()
-            self._call(name, lo, hi, entries, there, fitted)
-        return _pairs(entries, fitted.value)
+    def count(self, lo, hi):
+        """How many entries have keys from lo to hi, both included."""
+        return self._call("count", _number(lo), _number(hi))
 
     def _entry(self, name, *values):
         entry = _Entry()
@@ -455,23 +470,11 @@ class _Ranges(_Owner):
 
     def scan(self, lo, hi):
         """The entries with keys from lo to hi, both included, as pairs, while others change them."""
-        found, part, end = [], (_Entry * 256)(), _Scanned(0, 1, _number(lo))
-        hi = _number(hi)
-        with self._lock:
-            while end.more:
-                _check(self._call("scan", end.next, hi, part, len(part), end))
-                found += _pairs(part, end.filled)
-        return found
+        return self._scan(_number(lo), _number(hi))
 
     def scan_back(self, lo, hi):
         """The same from the greatest key down."""
-        found, part, end = [], (_Entry * 256)(), _Scanned(0, 1, _number(hi))
-        lo = _number(lo)
-        with self._lock:
-            while end.more:
-                _check(self._call("scan_back", lo, end.next, part, len(part), end))
-                found += _pairs(part, end.filled)
-        return found
+        return self._scan_back(_number(lo), _number(hi))
 
     def snapshot(self, lo, hi, tries=100):
         """The same as they all were at one time; None where others changed the range at each try."""

@@ -30,15 +30,17 @@ int main(void) {
         add(&by_score, blink_key_of_double(scores[row]), row);
     }
     blink_entry entries[ROWS];
-    size_t fitted, count = blink_index_scan(&by_age, blink_key_of_pair(41, 0), blink_key_of_pair(41, UINT32_MAX), entries, ROWS, &fitted);
+    // there are as many places as rows, so one call gives all of a range
+    blink_scanned it;
+    blink_index_scan(&by_age, blink_key_of_pair(41, 0), blink_key_of_pair(41, UINT32_MAX), entries, ROWS, &it);
     printf("41 years old:");
-    for (size_t i = 0; i < count; i++) printf(" row %u", (unsigned)entries[i].pointer);
-    count = blink_index_scan(&by_balance, 0, blink_key_of_int64(-1), entries, ROWS, &fitted);
+    for (size_t i = 0; i < it.filled; i++) printf(" row %u", (unsigned)entries[i].pointer);
+    blink_index_scan(&by_balance, 0, blink_key_of_int64(-1), entries, ROWS, &it);
     printf("\noverdrawn:");
-    for (size_t i = 0; i < count; i++) printf(" %lld", (long long)blink_int64_of_key(entries[i].key));
-    count = blink_index_scan(&by_score, 0, UINT64_MAX, entries, ROWS, &fitted);
+    for (size_t i = 0; i < it.filled; i++) printf(" %lld", (long long)blink_int64_of_key(entries[i].key));
+    blink_index_scan(&by_score, 0, UINT64_MAX, entries, ROWS, &it);
     printf("\nscores:");
-    for (size_t i = 0; i < count; i++) printf(" %g", blink_double_of_key(entries[i].key));
+    for (size_t i = 0; i < it.filled; i++) printf(" %g", blink_double_of_key(entries[i].key));
     printf("\n");
     blink_index_free(by_age);
     blink_index_free(by_balance);

@@ -35,6 +35,7 @@ static void uses_an_index() {
     CHECK(index.size() == 1001 && index.scan(1500, 1999).size() == 500 && index.scan(1, 4).empty());
     CHECK(index.page(1990, 100).size() == 10 && index.page(0, 2)[1].key == 1000 && index.page(0, 0).empty());
     CHECK(index.scan_back(1, 1001)[2].key == 5 && index.page_back(1999, 2)[1].key == 1998 && index.page_back(4, 9).empty());
+    CHECK(index.count(1500, 1999) == 500 && index.count(6, 999) == 0 && index.page(0, 600)[599].key == 1598);
     CHECK(index.prev(1000)->key == 5 && !index.prev(5) && index.at_least(6)->key == 1000 && index.at_most(999)->pointer == 53);
     CHECK(index.first()->key == 5 && index.last()->pointer == 1999 && index.next(5)->key == 1000 && !index.next(1999));
     auto answers = index.find_many({5, 6});

@@ -67,6 +67,7 @@ def uses_an_index():
     assert len(index.page(0, 100)) == 100 and index.page(1999, MOST) == [(1999, MOST - 1999)] and index.page(0, 0) == []
     assert index.scan_back(1998, MOST) == [(1999, MOST - 1999), (1998, MOST - 1998)] and index.scan_back(6, 7) == []
     assert index.page_back(1000, 9) == [(1000, MOST - 1000), (5, 53)] and index.page_back(4, 9) == []
+    assert index.count(1500, 1999) == 500 and index.count(6, 999) == 0 and index.page(0, 600)[-1] == (1598, MOST - 1598)
     assert index.prev(1000) == (5, 53) and index.prev(5) is None and index.at_least(6)[0] == 1000 and index.at_most(999) == (5, 53)
     assert index.first() == (5, 53) and index.last()[0] == 1999 and index.next(5)[0] == 1000 and index.next(1999) is None
     assert index.find_many([5, 6]) == [(FOUND, 53), (ABSENT, 0)] and index.find_many([]) == []

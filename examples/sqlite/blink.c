@@ -41,8 +41,8 @@ struct rows {
     blink_index index;     // its own rows, or
     struct shared *shared; // those that it shares, and its session
     blink_session session;
-    uint64_t count, changes, width; // how many there are, how often this connection has changed one, and how wide a part is on the way down
-    struct undo *log;               // the changes of the transaction, and of each savepoint how many were made before it
+    uint64_t count, changes; // how many there are, and how often this connection has changed one
+    struct undo *log;        // the changes of the transaction, and of each savepoint how many were made before it
     size_t logged, log_room, *marks, marked, mark_room;
     int users; // how many of SQLite's objects name them
     bool dropped;
@@ -59,7 +59,8 @@ struct table {
     struct rows *rows;
 };
 
-// A walk over the keys from `lo` to `hi`, part by part. The row is that at `at`; those behind it in the walk are still to be read.
+// A walk over the keys from `lo` to `hi`, part by part, up or down. The row is that at `at`. Behind the part it goes on from `lo`, or down
+// from `hi`.
 struct cursor {
     sqlite3_vtab_cursor base;
     blink_entry part[PART];
@@ -88,19 +89,15 @@ static bool finds(struct rows *rows, uint64_t key, uint64_t *pointer) {
     return true;
 }
 
-// Reads the first entries with keys from `lo` to `hi`, as many as `want`, and says whether there may be more.
-static size_t reads(struct rows *rows, uint64_t lo, uint64_t hi, blink_entry *part, size_t want, bool *more) {
+// Reads the first entries with keys from `lo` to `hi`, or where it descends the last ones, the greatest first, as many as `want`.
+static blink_scanned reads(struct rows *rows, uint64_t lo, uint64_t hi, bool descending, blink_entry *part, size_t want) {
     blink_scanned scanned = {0, 0, 0};
-    size_t fitted = 0;
-    if (rows->shared) {
-        (void)blink_session_scan(&rows->session, lo, hi, part, want, &scanned);
-        *more = scanned.more;
-        return scanned.filled;
-    }
-    blink_index_page(&rows->index, lo, want, part, want, &fitted);
-    *more = fitted == want && part[fitted - 1].key < hi;
-    while (fitted && part[fitted - 1].key > hi) fitted--;
-    return fitted;
+    // none is refused, since no operation is under way between two calls
+    if (rows->shared && descending) (void)blink_session_scan_back(&rows->session, lo, hi, part, want, &scanned);
+    else if (rows->shared) (void)blink_session_scan(&rows->session, lo, hi, part, want, &scanned);
+    else if (descending) (void)blink_index_scan_back(&rows->index, lo, hi, part, want, &scanned);
+    else (void)blink_index_scan(&rows->index, lo, hi, part, want, &scanned);
+    return scanned;
 }
 
 enum change { INSERT, DELETE, REPLACE, EXCHANGE, DELETE_EXACT };
@@ -208,7 +205,7 @@ static void drop(struct rows **at) {
 static int new_rows(struct connection *home, const char *database, const char *name, const char *shared, struct rows **out) {
     struct rows *rows = sqlite3_malloc(sizeof *rows);
     if (!rows) return SQLITE_NOMEM;
-    *rows = (struct rows){.database = sqlite3_mprintf("%s", database), .name = sqlite3_mprintf("%s", name), .width = UINT64_MAX};
+    *rows = (struct rows){.database = sqlite3_mprintf("%s", database), .name = sqlite3_mprintf("%s", name)};
     int status = !rows->database || !rows->name ? SQLITE_NOMEM
                  : shared                       ? join_shared(rows, shared)
                                                 : status_of(blink_index_new(FAN, &rows->index));
@@ -221,7 +218,8 @@ static int new_rows(struct connection *home, const char *database, const char *n
 static int opens(sqlite3 *db, void *aux, int argc, const char *const *argv, sqlite3_vtab **out, char **error, bool anew) {
     struct connection *home = aux;
     if (argc > 4) return *error = sqlite3_mprintf("blink takes one name"), SQLITE_ERROR;
-    int status = sqlite3_declare_vtab(db, "CREATE TABLE x(key INTEGER PRIMARY KEY, pointer INTEGER NOT NULL)");
+    // no key is NULL, which SQLite wants to know before it takes min(key) from the first row
+    int status = sqlite3_declare_vtab(db, "CREATE TABLE x(key INTEGER PRIMARY KEY NOT NULL, pointer INTEGER NOT NULL)");
     // a refused change has changed nothing
     if (status == SQLITE_OK) status = sqlite3_vtab_config(db, SQLITE_VTAB_CONSTRAINT_SUPPORT, 1);
     if (status != SQLITE_OK) return status;
@@ -319,40 +317,13 @@ static int close_cursor(sqlite3_vtab_cursor *base) {
 
 static struct rows *rows_of(struct cursor *cursor) { return ((struct table *)cursor->base.pVtab)->rows; }
 
-static uint64_t times(uint64_t width, uint64_t by) { return width > UINT64_MAX / by ? UINT64_MAX : width * by; }
-
-// Reads the next part of an ascending walk: the first entries from `lo` on.
-static void fill_up(struct rows *rows, struct cursor *cursor) {
-    bool more;
-    cursor->filled = reads(rows, cursor->lo, cursor->hi, cursor->part, cursor->want, &more);
-    cursor->at = 0, cursor->ended = !cursor->filled;
-    cursor->last_part = !more || cursor->ended || cursor->part[cursor->filled - 1].key == cursor->hi;
-    if (!cursor->last_part) cursor->lo = cursor->part[cursor->filled - 1].key + 1;
-}
-
-// Reads the next part of a descending walk. A map has no scan backwards, so this takes all entries of a stretch that ends in `hi`: a narrower
-// one where they are too many, and the next one, and wider, where there are none. The rows keep the width for the next walk.
-static void fill_down(struct rows *rows, struct cursor *cursor) {
-    bool more;
-    do {
-        uint64_t from = cursor->hi - cursor->lo > rows->width ? cursor->hi - rows->width : cursor->lo;
-        cursor->filled = reads(rows, from, cursor->hi, cursor->part, cursor->want, &more);
-        if (more) {
-            rows->width = (from == cursor->lo ? cursor->hi - cursor->lo : rows->width) / 4;
-            continue;
-        }
-        if (cursor->filled < cursor->want / 4) rows->width = times(rows->width + (rows->width < UINT64_MAX), 2);
-        cursor->last_part = from == cursor->lo;
-        if (!cursor->last_part) cursor->hi = from - 1;
-    } while (more || (!cursor->filled && !cursor->last_part));
-    cursor->at = cursor->filled - 1, cursor->ended = !cursor->filled;
-}
-
+// Reads the next part of the walk.
 static void fill(struct cursor *cursor) {
     struct rows *rows = rows_of(cursor);
+    blink_scanned scanned = reads(rows, cursor->lo, cursor->hi, cursor->descending, cursor->part, cursor->want);
     cursor->changes = rows->changes;
-    if (cursor->descending) fill_down(rows, cursor);
-    else fill_up(rows, cursor);
+    cursor->at = 0, cursor->filled = scanned.filled, cursor->ended = !scanned.filled, cursor->last_part = !scanned.more;
+    if (scanned.more) *(cursor->descending ? &cursor->hi : &cursor->lo) = scanned.next;
     if (cursor->want < PART) cursor->want *= 4;
 }
 
@@ -395,9 +366,6 @@ static int filter(sqlite3_vtab_cursor *base, int descending, const char *letters
         return SQLITE_OK;
     }
     cursor->want = FIRST_PART;
-    blink_entry last;
-    if (descending && !rows->shared && blink_index_last(&rows->index, &last) && last.key < cursor->hi && last.key >= cursor->lo)
-        cursor->hi = last.key;
     fill(cursor);
     return SQLITE_OK;
 }
@@ -412,8 +380,8 @@ static int next(sqlite3_vtab_cursor *base) {
         if (cursor->descending) cursor->hi = key - 1;
         else cursor->lo = key + 1;
         fill(cursor);
-    } else if (cursor->descending ? cursor->at > 0 : cursor->at + 1 < cursor->filled) {
-        cursor->at += cursor->descending ? (size_t)-1 : 1;
+    } else if (cursor->at + 1 < cursor->filled) {
+        cursor->at++;
     } else if (cursor->last_part) {
         cursor->ended = true;
     } else {
@@ -508,11 +476,10 @@ static bool is_integer(sqlite3_value *value, sqlite3_int64 *out) {
 
 // The key that a row without one gets: the one above the greatest.
 static int key_above_all(struct rows *rows, sqlite3_int64 *out) {
-    struct cursor walk = {.hi = UINT64_MAX, .want = FIRST_PART};
-    fill_down(rows, &walk);
-    if (walk.ended) return *out = 1, SQLITE_OK;
-    if (walk.part[walk.at].key == UINT64_MAX) return SQLITE_FULL;
-    return *out = value_of(walk.part[walk.at].key + 1), SQLITE_OK;
+    blink_entry last;
+    if (!reads(rows, 0, UINT64_MAX, true, &last, 1).filled) return *out = 1, SQLITE_OK;
+    if (last.key == UINT64_MAX) return SQLITE_FULL;
+    return *out = value_of(last.key + 1), SQLITE_OK;
 }
 
 static int refuses(struct table *table, const char *constraint, const char *column) {

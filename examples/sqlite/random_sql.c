@@ -8,6 +8,7 @@
 #include <stdio.h>
 #include <stdlib.h>
 #include <string.h>
+#include <time.h>
 
 enum { MOST = 1 << 20, THREADS = 4 };
 
@@ -223,6 +224,37 @@ static void walks(const char *order, int step) {
     if (met != 1000) exit(fprintf(stderr, "random_sql: a walk %s met %d rows\n", order, met));
 }
 
+// A query of a large table's end, which has to tell this. It may take few steps of SQLite's machine and little time of the processor, by far
+// less than a walk over all rows.
+static void is_quick(const char *sql, const char *expected) {
+    enum { TIMES = 100 };
+    sqlite3_stmt *statement;
+    clock_t begun = clock();
+    for (int i = 0; i < TIMES; i++) is(sql, expected);
+    clock_t took = clock() - begun;
+    if (sqlite3_prepare_v2(blink, sql, -1, &statement, NULL) != SQLITE_OK) exit(fprintf(stderr, "random_sql: %s\n", sqlite3_errmsg(blink)));
+    while (sqlite3_step(statement) == SQLITE_ROW) continue;
+    int steps = sqlite3_stmt_status(statement, SQLITE_STMTSTATUS_VM_STEP, 0);
+    sqlite3_finalize(statement);
+    if (steps < 100 && took < CLOCKS_PER_SEC) return;
+    exit(fprintf(stderr, "random_sql: %s\n%d steps, and %d times in %ld us\n", sql, steps, TIMES, (long)(took / (CLOCKS_PER_SEC / 1000000))));
+}
+
+// Both ends of 100,000 rows, and what is next to a key between.
+static void reads_ends(const char *create) {
+    is(create, "status 101");
+    is("WITH RECURSIVE n(i) AS (SELECT 1 UNION ALL SELECT i + 1 FROM n WHERE i < 100000) INSERT INTO e SELECT i * 7, i FROM n", "");
+    is_quick("SELECT max(key) FROM e", "700000|");
+    is_quick("SELECT min(key) FROM e", "7|");
+    is_quick("SELECT pointer FROM e ORDER BY key DESC LIMIT 3", "100000|\n99999|\n99998|\nstatus 101");
+    is_quick("SELECT pointer FROM e WHERE key < 350000 ORDER BY key DESC LIMIT 2", "49999|\n49998|\nstatus 101");
+    is_quick("SELECT max(key) FROM e WHERE key <= 350000", "350000|");
+    is_quick("SELECT key FROM e WHERE key > 350000 ORDER BY key LIMIT 1", "350007|");
+    is("DELETE FROM e WHERE key > 7", "");
+    is_quick("SELECT max(key) FROM e", "7|");
+    is("DROP TABLE e", "status 101");
+}
+
 // Opens both databases, with a table of this module each, and runs as many statements.
 static void compares(const char *module, int statements) {
     static _Thread_local struct text sql;
@@ -257,6 +289,8 @@ static void does_the_rest(void) {
     plans("EXPLAIN QUERY PLAN SELECT * FROM t WHERE key >= 5 ORDER BY key", "VIRTUAL TABLE INDEX 0:g|");
     plans("EXPLAIN QUERY PLAN SELECT * FROM t WHERE rowid < 5 ORDER BY key DESC", "VIRTUAL TABLE INDEX 1:<|");
     plans("EXPLAIN QUERY PLAN SELECT * FROM u CROSS JOIN t ON t.key = u.other", "VIRTUAL TABLE INDEX 0:=|");
+    reads_ends("CREATE VIRTUAL TABLE e USING blink");
+    reads_ends("CREATE VIRTUAL TABLE e USING blink(ends)");
     walks("ASC", 10);
     walks("DESC", -10);
     // the schema is read anew, and the rows are there; a table whose creation is undone leaves none to its name

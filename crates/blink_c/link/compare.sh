@@ -12,18 +12,20 @@ header=$here/../../include
 work=$(mktemp -d) || exit 1
 trap 'rm -rf "$work"' EXIT
 
-# Each export as a line `NAME|RESULT|PARAMETER, PARAMETER ..`, in the words of src/.
+# Each export as a line `NAME|RESULT|PARAMETER, PARAMETER ..|KEPT`, in the words of src/. KEPT is the handle that it is proved to leave as
+# it was, by the clause `same`; a map's isn't const in C, since its inline functions take it out for a while.
 cat "$here"/src/*.rt | awk '
-    /^pub extern "C" fn / { text = ""; on = 1 }
-    on { text = text " " $0 }
-    on && /\)/ {
+    /^pub extern "C" fn / { text = ""; kept = ""; on = 1 }
+    on && text !~ /\)/ { text = text " " $0 }
+    on && /^ *ensures same \{ (index|reader|session)\.new\.value / { kept = $4; sub(/\..*/, "", kept) }
+    on && /\{$/ {
         on = 0
         sub(/^ *pub extern "C" fn /, "", text)
         name = text; sub(/\(.*/, "", name)
         result = text; if (!sub(/.*\) -> /, "", result)) result = "()"
         sub(/ *\{.*/, "", result)
         params = text; sub(/^[^(]*\(/, "", params); sub(/\)[^)]*$/, "", params); sub(/, *$/, "", params)
-        print name "|" result "|" params
+        print name "|" result "|" params "|" kept
     }' | sort >"$work/exports"
 
 # The same as C declares it.
@@ -43,10 +45,11 @@ sed 's/|/ | /g' "$work/exports" | awk -F ' [|] ' '
         comma = ""
         for (i = 1; i <= n; i++) {
             type = parts[i]; sub(/^ *[a-z_]+: /, "", type); sub(/ *$/, "", type)
+            name = parts[i]; sub(/^ */, "", name); sub(/:.*/, "", name)
             if (type == "Global" || type == "") continue
             if (type ~ /^&mut \[/) { gsub(/^&mut \[|\]$/, "", type); said = c[type] " *, size_t" }
             else if (type ~ /^&\[/) { gsub(/^&\[|\]$/, "", type); said = "const " c[type] " *, size_t" }
-            else if (type ~ /^&mut /) { sub(/^&mut /, "", type); said = c[type] " *" }
+            else if (type ~ /^&mut /) { sub(/^&mut /, "", type); said = (name == $4 ? "const " : "") c[type] " *" }
             else said = c[type]
             line = line comma said
             comma = ", "

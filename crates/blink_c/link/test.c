@@ -121,20 +121,45 @@ static void looks_up(void) {
     CHECK(answers[0].kind == BLINK_ABSENT && answers[0].pointer == 0);
     CHECK(answers[1].kind == BLINK_FOUND && answers[1].pointer == 50 && answers[2].pointer == 10);
     blink_entry entries[8];
-    size_t fitted = 9;
+    blink_scanned it = {9, 9, 9};
     memset(entries, 0, sizeof entries);
-    CHECK(blink_index_scan(&index, 2, 4, entries, 2, &fitted) == 3 && fitted == 2);
+    CHECK(blink_index_scan(&index, 2, 4, entries, 2, &it) == BLINK_DONE && it.filled == 2 && it.more == 1 && it.next == 4);
     CHECK(entries[0].key == 2 && entries[1].key == 3 && entries[1].pointer == 30 && entries[2].key == 0);
-    CHECK(blink_index_scan(&index, 0, UINT64_MAX, entries, 8, &fitted) == 5 && fitted == 5 && entries[4].pointer == 50);
-    CHECK(blink_index_scan(&index, 4, 2, entries, 8, &fitted) == 0 && fitted == 0);
-    CHECK(blink_index_page(&index, 3, 2, entries, 8, &fitted) == 2 && fitted == 2 && entries[1].key == 4);
-    CHECK(blink_index_page(&index, 3, 9, entries, 1, &fitted) == 3 && fitted == 1 && entries[0].key == 3);
+    CHECK(blink_index_scan(&index, 2, 3, entries, 2, &it) == BLINK_DONE && it.filled == 2 && it.more == 0 && it.next == 0);
+    CHECK(blink_index_scan(&index, 0, UINT64_MAX, entries, 8, &it) == BLINK_DONE && it.filled == 5 && it.more == 0 && entries[4].pointer == 50);
+    CHECK(blink_index_scan(&index, 4, 2, entries, 8, &it) == BLINK_DONE && it.filled == 0 && it.more == 0);
+    CHECK(blink_index_scan(&index, 0, UINT64_MAX, entries, 0, &it) == BLINK_DONE && it.filled == 0 && it.more == 1 && it.next == 1);
     memset(entries, 0, sizeof entries);
-    CHECK(blink_index_scan_back(&index, 2, 4, entries, 2, &fitted) == 3 && fitted == 2);
+    CHECK(blink_index_scan_back(&index, 2, 4, entries, 2, &it) == BLINK_DONE && it.filled == 2 && it.more == 1 && it.next == 2);
     CHECK(entries[0].key == 4 && entries[1].key == 3 && entries[1].pointer == 30 && entries[2].key == 0);
-    CHECK(blink_index_scan_back(&index, 4, 2, entries, 8, &fitted) == 0 && fitted == 0);
-    CHECK(blink_index_page_back(&index, 3, 2, entries, 8, &fitted) == 2 && fitted == 2 && entries[0].key == 3 && entries[1].key == 2);
-    CHECK(blink_index_page_back(&index, 3, 9, entries, 1, &fitted) == 3 && fitted == 1 && entries[0].key == 3);
+    CHECK(blink_index_scan_back(&index, 3, 4, entries, 2, &it) == BLINK_DONE && it.filled == 2 && it.more == 0 && it.next == 0);
+    CHECK(blink_index_scan_back(&index, 4, 2, entries, 8, &it) == BLINK_DONE && it.filled == 0 && it.more == 0);
+    CHECK(blink_index_count(&index, 2, 4) == 3 && blink_index_count(&index, 0, UINT64_MAX) == 5 && blink_index_count(&index, 4, 2) == 0);
+    blink_index_free(index);
+}
+
+// All entries of a range come part by part, in both directions, however many places a part has.
+static void scans_in_parts(void) {
+    enum { MANY = 1000, FROM = 100, TO = 1900 };
+    static blink_entry all[MANY], part[300];
+    for (uint64_t i = 0; i < MANY; i++) all[i] = (blink_entry){2 * i, i};
+    blink_index index = index_of(8, all, MANY);
+    for (size_t places = 1; places <= 300; places += places < 20 ? 1 : 40) {
+        uint64_t place = FROM / 2;
+        for (blink_scanned it = {0, 1, FROM}; it.more;) {
+            CHECK(blink_index_scan(&index, it.next, TO, part, places, &it) == BLINK_DONE && it.filled <= places);
+            for (uint64_t i = 0; i < it.filled; i++) CHECK(part[i].key == 2 * place && part[i].pointer == place), place++;
+            CHECK(it.more ? it.next == 2 * place && it.filled == places : it.next == 0);
+        }
+        CHECK(place == TO / 2 + 1);
+        for (blink_scanned it = {0, 1, TO}; it.more;) {
+            CHECK(blink_index_scan_back(&index, FROM, it.next, part, places, &it) == BLINK_DONE && it.filled <= places);
+            for (uint64_t i = 0; i < it.filled; i++) place--, CHECK(part[i].key == 2 * place && part[i].pointer == place);
+            CHECK(it.more ? it.next == 2 * place - 2 && it.filled == places : it.next == 0);
+        }
+        CHECK(place == FROM / 2);
+    }
+    CHECK(blink_index_count(&index, FROM, TO) == 901 && blink_index_count(&index, 0, UINT64_MAX) == MANY);
     blink_index_free(index);
 }
 
@@ -878,7 +903,7 @@ static void *reads_all(void *at) {
     blink_reader *reader = at;
     blink_entry entry = {0, 0}, range[100];
     uint64_t pointer = 0, keys[] = {3, 4, 9000};
-    size_t fitted = 0;
+    blink_scanned it = {9, 9, 9};
     blink_answer answers[3];
     for (uint64_t key = 1; key <= 3 * READ; key++) {
         CHECK(blink_reader_find(reader, key, &pointer) == (key % 3 == 0));
@@ -892,10 +917,13 @@ static void *reads_all(void *at) {
         CHECK(blink_reader_next(reader, entry.key, &entry) && entry.key == key && entry.pointer == 10 * key);
     CHECK(!blink_reader_next(reader, entry.key, &entry) && entry.key == 3 * READ);
     CHECK(blink_reader_last(reader, &entry) && entry.key == 3 * READ && blink_reader_len(reader) == READ);
-    CHECK(blink_reader_scan(reader, 10, 20, range, 2, &fitted) == 3 && fitted == 2 && range[0].key == 12 && range[1].pointer == 150);
-    CHECK(blink_reader_page(reader, 10, 100, range, 100, &fitted) == 100 && fitted == 100 && range[99].key == 309);
-    CHECK(blink_reader_scan_back(reader, 10, 20, range, 2, &fitted) == 3 && fitted == 2 && range[0].key == 18 && range[1].pointer == 150);
-    CHECK(blink_reader_page_back(reader, 310, 100, range, 100, &fitted) == 100 && fitted == 100 && range[0].key == 309 && range[99].key == 12);
+    CHECK(blink_reader_scan(reader, 10, 20, range, 2, &it) == BLINK_DONE && it.filled == 2 && it.more == 1 && it.next == 18);
+    CHECK(range[0].key == 12 && range[1].pointer == 150 && blink_reader_count(reader, 10, 20) == 3);
+    CHECK(blink_reader_scan(reader, 10, UINT64_MAX, range, 100, &it) == BLINK_DONE && it.filled == 100 && it.next == 312 && range[99].key == 309);
+    CHECK(blink_reader_scan_back(reader, 10, 20, range, 2, &it) == BLINK_DONE && it.filled == 2 && it.more == 1 && it.next == 12);
+    CHECK(range[0].key == 18 && range[1].pointer == 150);
+    CHECK(blink_reader_scan_back(reader, 0, 310, range, 100, &it) == BLINK_DONE && it.filled == 100 && it.next == 9 && range[0].key == 309);
+    CHECK(range[99].key == 12);
     CHECK(blink_reader_prev(reader, 12, &entry) && entry.key == 9 && blink_reader_at_most(reader, 14, &entry) && entry.key == 12);
     CHECK(blink_reader_at_least(reader, 13, &entry) && entry.key == 15 && !blink_reader_prev(reader, 3, &entry) && entry.key == 15);
     blink_reader_free(*reader);
@@ -1056,6 +1084,7 @@ int main(int argc, char **argv) {
     makes_an_index();
     packs_an_index();
     looks_up();
+    scans_in_parts();
     changes_in_place();
     changes_nothing_without_memory();
     runs_batches();

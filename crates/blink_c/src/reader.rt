@@ -1,15 +1,15 @@
 //! The exports that make an index one that is only read, by several threads at the same time, and those of its readers.
-ghost use Rattle.std.specs.Prelude.{◌≡◌, ◌≢◌, ◌↔◌, None, Some, IsSome, IsTrue, filter, length, map, min, reverse, take};
+ghost use Rattle.std.specs.Prelude.{◌≡◌, ◌≢◌, ◌↔◌, None, Some, IsSome, IsTrue, filter, length, map, reverse, take};
 ghost use Rattle.blink_batch.specs.{pointer_of};
 ghost use Rattle.blink_index.specs.{first_of, is_above, is_below, is_from, is_up_to, is_within, last_of, map_of, text_of_store};
 ghost use Rattle.blink_page.specs.{IsPageNumber};
 ghost use Rattle.blink_owners.specs.Codes.{code_of};
-ghost use Rattle.blink_owners.specs.{entry_or, found_answer, index_at, index_in, overlaid, pointer_or, put_if_fits};
+ghost use Rattle.blink_owners.specs.{entry_or, found_answer, index_at, index_in, overlaid, pointer_or, put_if_fits, told_of};
 
 use crate::index_slot::IndexSlot;
 use crate::reader_handle::ReaderHandle;
 use crate::reader_slot::ReaderSlot;
-use blink_owners::raw::{RawAnswer, RawEntry};
+use blink_owners::raw::{RawAnswer, RawEntry, RawScanned};
 use blink_owners::reader_owner::ReaderOwner;
 use blink_owners::reads;
 use blink_owners::refusal::{Code, DONE, Refusal};
@@ -126,81 +126,53 @@ pub extern "C" fn blink_reader_find_many(
     reads::find_many(reader.get().index(), keys, answers)
 }
 
-/// Gives the entries whose keys are from `lo` to `hi`, as many as there are places. It returns how many there are, and stores
-/// how many fitted.
+/// Gives the entries whose keys are from `lo` to `hi`, as many as there are places, and tells how far it came. It is never refused.
 #[unsafe(no_mangle)]
 pub extern "C" fn blink_reader_scan(
     reader: &mut ReaderHandle,
     lo: u64,
     hi: u64,
     entries: &mut [RawEntry],
-    fitted: &mut usize,
-) -> usize
-    ensures there { result ≡ length (filter (is_within lo hi) (map_of (index_in reader.old.value))) }
+    scanned: &mut RawScanned,
+) -> Code
     ensures entries { entries.new
         ≡ overlaid (filter (is_within lo hi) (map_of (index_in reader.old.value))) entries.old }
-    ensures fitted { fitted.new ≡ min result (length entries.old) }
+    ensures scanned { scanned.new
+        ≡ told_of (filter (is_within lo hi) (map_of (index_in reader.old.value))) (length entries.old) }
+    ensures done { result ≡ 0 }
     ensures same { reader.new.value ≡ reader.old.value }
 {
-    reads::scan(reader.get().index(), lo, hi, entries, fitted)
+    reads::scan(reader.get().index(), lo, hi, entries, scanned);
+    DONE
 }
 
-/// Gives the first `n` entries whose keys are at least `lo`, or all of these if they are fewer, as many as there are places. It
-/// returns how many there are, at most `n`, and stores how many fitted.
-#[unsafe(no_mangle)]
-pub extern "C" fn blink_reader_page(
-    reader: &mut ReaderHandle,
-    lo: u64,
-    n: u64,
-    entries: &mut [RawEntry],
-    fitted: &mut usize,
-) -> usize
-    ensures there { result
-        ≡ length (take n (filter (is_from lo) (map_of (index_in reader.old.value)))) }
-    ensures entries { entries.new
-        ≡ overlaid (take n (filter (is_from lo) (map_of (index_in reader.old.value)))) entries.old }
-    ensures fitted { fitted.new ≡ min result (length entries.old) }
-    ensures same { reader.new.value ≡ reader.old.value }
-{
-    reads::page(reader.get().index(), lo, n, entries, fitted)
-}
-
-/// Gives the entries whose keys are from `lo` to `hi`, the greatest first, as many as there are places. It returns how many there
-/// are, and stores how many fitted.
+/// The same, the greatest first.
 #[unsafe(no_mangle)]
 pub extern "C" fn blink_reader_scan_back(
     reader: &mut ReaderHandle,
     lo: u64,
     hi: u64,
     entries: &mut [RawEntry],
-    fitted: &mut usize,
-) -> usize
-    ensures there { result ≡ length (filter (is_within lo hi) (map_of (index_in reader.old.value))) }
+    scanned: &mut RawScanned,
+) -> Code
     ensures entries { entries.new
         ≡ overlaid (reverse (filter (is_within lo hi) (map_of (index_in reader.old.value)))) entries.old }
-    ensures fitted { fitted.new ≡ min result (length entries.old) }
+    ensures scanned { scanned.new
+        ≡ told_of (reverse (filter (is_within lo hi) (map_of (index_in reader.old.value)))) (length entries.old) }
+    ensures done { result ≡ 0 }
     ensures same { reader.new.value ≡ reader.old.value }
 {
-    reads::scan_back(reader.get().index(), lo, hi, entries, fitted)
+    reads::scan_back(reader.get().index(), lo, hi, entries, scanned);
+    DONE
 }
 
-/// Gives the last `n` entries whose keys are at most `hi`, the greatest first, or all of these if they are fewer, as many as there
-/// are places. It returns how many there are, at most `n`, and stores how many fitted.
+/// Returns the number of the entries whose keys are from `lo` to `hi`. It walks their leaves.
 #[unsafe(no_mangle)]
-pub extern "C" fn blink_reader_page_back(
-    reader: &mut ReaderHandle,
-    hi: u64,
-    n: u64,
-    entries: &mut [RawEntry],
-    fitted: &mut usize,
-) -> usize
-    ensures there { result ≡ min n (length (filter (is_up_to hi) (map_of (index_in reader.old.value)))) }
-    ensures entries { entries.new
-        ≡ overlaid (take n (reverse (filter (is_up_to hi) (map_of (index_in reader.old.value))))) entries.old }
-    ensures fitted { fitted.new ≡ min result (length entries.old) }
+pub extern "C" fn blink_reader_count(reader: &mut ReaderHandle, lo: u64, hi: u64) -> usize
+    ensures entries { result ≡ length (filter (is_within lo hi) (map_of (index_in reader.old.value))) }
     ensures same { reader.new.value ≡ reader.old.value }
 {
-    reads::page_back(reader.get().index(), hi, n, entries, fitted)
+    reads::count(reader.get().index(), lo, hi)
 }
 
 /// Gives the entry with the least key, if there is one, or leaves `entry` as it was.

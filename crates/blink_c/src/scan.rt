@@ -1,86 +1,60 @@
 //! The exports that give entries in the order of their keys or from the greatest key down, and that count them.
-ghost use Rattle.std.specs.Prelude.{◌≡◌, filter, length, min, reverse, take};
-ghost use Rattle.blink_index.specs.{is_from, is_up_to, is_within, map_of};
-ghost use Rattle.blink_owners.specs.{overlaid};
+ghost use Rattle.std.specs.Prelude.{◌≡◌, filter, length, reverse};
+ghost use Rattle.blink_index.specs.{is_within, map_of};
+ghost use Rattle.blink_owners.specs.{overlaid, told_of};
 
 use crate::index_handle::IndexHandle;
-use blink_owners::raw::RawEntry;
+use blink_owners::raw::{RawEntry, RawScanned};
 use blink_owners::reads;
+use blink_owners::refusal::{Code, DONE};
 
-/// Gives the entries whose keys are from `lo` to `hi`, as many as there are places. It returns how many there are, and stores
-/// how many fitted.
+/// Gives the entries whose keys are from `lo` to `hi`, as many as there are places, and tells how far it came. It is never refused.
 #[unsafe(no_mangle)]
 pub extern "C" fn blink_index_scan(
     index: &mut IndexHandle,
     lo: u64,
     hi: u64,
     entries: &mut [RawEntry],
-    fitted: &mut usize,
-) -> usize
-    ensures there { result ≡ length (filter (is_within lo hi) (map_of index.old.value)) }
+    scanned: &mut RawScanned,
+) -> Code
     ensures entries { entries.new
         ≡ overlaid (filter (is_within lo hi) (map_of index.old.value)) entries.old }
-    ensures fitted { fitted.new ≡ min result (length entries.old) }
+    ensures scanned { scanned.new
+        ≡ told_of (filter (is_within lo hi) (map_of index.old.value)) (length entries.old) }
+    ensures done { result ≡ 0 }
     ensures same { index.new.value ≡ index.old.value }
 {
-    reads::scan(index.get(), lo, hi, entries, fitted)
+    reads::scan(index.get(), lo, hi, entries, scanned);
+    DONE
 }
 
-/// Gives the first `n` entries whose keys are at least `lo`, or all of these if they are fewer, as many as there are places. It
-/// returns how many there are, at most `n`, and stores how many fitted.
-#[unsafe(no_mangle)]
-pub extern "C" fn blink_index_page(
-    index: &mut IndexHandle,
-    lo: u64,
-    n: u64,
-    entries: &mut [RawEntry],
-    fitted: &mut usize,
-) -> usize
-    ensures there { result ≡ length (take n (filter (is_from lo) (map_of index.old.value))) }
-    ensures entries { entries.new
-        ≡ overlaid (take n (filter (is_from lo) (map_of index.old.value))) entries.old }
-    ensures fitted { fitted.new ≡ min result (length entries.old) }
-    ensures same { index.new.value ≡ index.old.value }
-{
-    reads::page(index.get(), lo, n, entries, fitted)
-}
-
-/// Gives the entries whose keys are from `lo` to `hi`, the greatest first, as many as there are places. It returns how many there
-/// are, and stores how many fitted.
+/// The same, the greatest first.
 #[unsafe(no_mangle)]
 pub extern "C" fn blink_index_scan_back(
     index: &mut IndexHandle,
     lo: u64,
     hi: u64,
     entries: &mut [RawEntry],
-    fitted: &mut usize,
-) -> usize
-    ensures there { result ≡ length (filter (is_within lo hi) (map_of index.old.value)) }
+    scanned: &mut RawScanned,
+) -> Code
     ensures entries { entries.new
         ≡ overlaid (reverse (filter (is_within lo hi) (map_of index.old.value))) entries.old }
-    ensures fitted { fitted.new ≡ min result (length entries.old) }
+    ensures scanned { scanned.new
+        ≡ told_of (reverse (filter (is_within lo hi) (map_of index.old.value))) (length entries.old) }
+    ensures done { result ≡ 0 }
     ensures same { index.new.value ≡ index.old.value }
 {
-    reads::scan_back(index.get(), lo, hi, entries, fitted)
+    reads::scan_back(index.get(), lo, hi, entries, scanned);
+    DONE
 }
 
-/// Gives the last `n` entries whose keys are at most `hi`, the greatest first, or all of these if they are fewer, as many as there
-/// are places. It returns how many there are, at most `n`, and stores how many fitted.
+/// Returns the number of the entries whose keys are from `lo` to `hi`. It walks their leaves.
 #[unsafe(no_mangle)]
-pub extern "C" fn blink_index_page_back(
-    index: &mut IndexHandle,
-    hi: u64,
-    n: u64,
-    entries: &mut [RawEntry],
-    fitted: &mut usize,
-) -> usize
-    ensures there { result ≡ min n (length (filter (is_up_to hi) (map_of index.old.value))) }
-    ensures entries { entries.new
-        ≡ overlaid (take n (reverse (filter (is_up_to hi) (map_of index.old.value)))) entries.old }
-    ensures fitted { fitted.new ≡ min result (length entries.old) }
+pub extern "C" fn blink_index_count(index: &mut IndexHandle, lo: u64, hi: u64) -> usize
+    ensures entries { result ≡ length (filter (is_within lo hi) (map_of index.old.value)) }
     ensures same { index.new.value ≡ index.old.value }
 {
-    reads::page_back(index.get(), hi, n, entries, fitted)
+    reads::count(index.get(), lo, hi)
 }
 
 /// Returns the number of entries, which the index keeps.

@@ -1,7 +1,6 @@
--- Entries in the caller's places, as far as there are places; and what a filter and a prefix leave is no longer.
-use Rattle.std.proofs.Common.{◌≡◌, ℕ, suc, ◌<◌, ◌≤◌, Bool, List, [], ◌∷◌, ◌++◌, length, set, take, refl, ap, arith}
-use Rattle.std.specs.Prelude.{filter, reverse}
-use Rattle.std.proofs.lemmas.List.{length-reverse, length-take}
+-- Entries in the caller's places, as far as there are places; and what a filter leaves is no longer.
+use Rattle.std.proofs.Common.{◌≡◌, ℕ, suc, ◌<◌, ◌≤◌, Bool, List, [], ◌∷◌, ◌++◌, length, set, refl, ap, arith}
+use Rattle.std.specs.Prelude.{filter}
 use Rattle.std.proofs.lemmas.List.Sums.{count_by-le-length, length-filter}
 use Rattle.blink_batch.specs.declared.Entry.{Entry}
 use Rattle.blink_owners.specs.declared.raw.RawEntry.{RawEntry}
@@ -36,13 +35,3 @@ few_filtered p entries most few =
     let counted = length-filter p entries in
     let fewer = count_by-le-length p entries in
     omega (arith, few, counted, fewer)
-
-pub few_taken : (n : ℕ) (entries : List Entry) (most : ℕ) → length entries < most → length (take n entries) < most
-few_taken n entries most few =
-    let counted = length-take n entries in
-    omega (arith, few, counted)
-
-pub few_reversed : (entries : List Entry) (most : ℕ) → length entries < most → length (reverse entries) < most
-few_reversed entries most few =
-    let counted = length-reverse entries in
-    omega (arith, few, counted)

@@ -10,9 +10,9 @@ pub use Rattle.blink_owners.specs.Sorted.{TellsSortedFault}
 pub use Rattle.blink_owners.specs.Edits.{HasApplied, HasEdited, IsApplyRefusal, TellsEditFault, entry_or}
 -- what the code of a refused call tells
 pub use Rattle.blink_owners.specs.Codes.{TellsNewFault, TellsWhy}
--- what the look-ups give, and the caller's arrays after a scan, a page or a dump
+-- what the look-ups give, and the caller's arrays after a scan or a dump, and what a scan tells
 pub use Rattle.blink_owners.specs.Found.{found_answer, pointer_or}
-pub use Rattle.blink_owners.specs.Filled.{overlaid, put_if_fits}
+pub use Rattle.blink_owners.specs.Filled.{overlaid, put_if_fits, told_of}
 -- what a scan of a table or a map gives, and a snapshot
 pub use Rattle.blink_owners.specs.Reports.{HasReported, HasReportedBack, TellsTaken}
 -- a table behind a handle: what the calls make of it, and why they are refused

@@ -1,7 +1,7 @@
 //! Entries, operations and answers as the caller passes them: structs of numbers.
 ghost use Rattle.std.specs.Prelude.{◌≡◌, ◌↔◌, IfNone, IfSome, IsSome, IsTrue};
 ghost use Rattle.blink_owners.specs.Reports.{AreTaken, IsNotTaken};
-ghost use Rattle.blink_owners.specs.Raw.{op_of, raw_answer, raw_entry, raw_given, raw_scanned, raw_shown, raw_stock};
+ghost use Rattle.blink_owners.specs.Raw.{op_of, raw_answer, raw_entry, raw_given, raw_next, raw_scanned, raw_shown, raw_stock};
 
 use blink_batch::{Answer, Entry, Op};
 use blink_live::Scanned;
@@ -122,12 +122,12 @@ impl RawEntry {
 }
 
 impl RawScanned {
-    /// How far the scan came, as the caller gets it.
-    pub(crate) fn of(scanned: Scanned) -> RawScanned
-        ensures { result ≡ raw_scanned scanned }
+    // What the caller is told of a scan that filled so many places, and goes on from this key.
+    pub(crate) fn told(filled: usize, next: Option<u64>) -> RawScanned
+        ensures { result ≡ raw_next filled next }
     {
-        let filled = scanned.filled as u64;
-        match scanned.next {
+        let filled = filled as u64;
+        match next {
             Some(next) => RawScanned {
                 filled,
                 more: 1,
@@ -139,6 +139,13 @@ impl RawScanned {
                 next: 0,
             },
         }
+    }
+
+    /// How far the scan came, as the caller gets it.
+    pub(crate) fn of(scanned: Scanned) -> RawScanned
+        ensures { result ≡ raw_scanned scanned }
+    {
+        RawScanned::told(scanned.filled, scanned.next)
     }
 }
 

@@ -1,16 +1,16 @@
 //! Reading an index: what the exports of an index and those of a reader do alike.
-ghost use Rattle.std.specs.Prelude.{◌≡◌, ◌≢◌, ◌↔◌, ◌<◌, ◌≤◌, ◌^◌, ◌++◌, IsSome, List, IsTrue, filter, length, map, min, reverse, take};
+ghost use Rattle.std.specs.Prelude.{◌≡◌, ◌≢◌, ◌↔◌, ◌<◌, ◌≤◌, ◌^◌, ◌++◌, IsSome, List, IsTrue, filter, length, map, reverse};
 ghost use Rattle.blink_batch.specs.declared.Entry.{Entry};
 ghost use Rattle.blink_batch.specs.{pointer_of};
-ghost use Rattle.blink_index.specs.{is_from, is_up_to, is_within, map_of, text_of_store};
+ghost use Rattle.blink_index.specs.{is_within, map_of, text_of_store};
 ghost use Rattle.blink_rest.specs.{entries_from};
 ghost use Rattle.blink_owners.specs.declared.raw.RawEntry.{RawEntry};
 ghost use Rattle.blink_owners.specs.Codes.{code_of};
 ghost use Rattle.blink_owners.specs.Edits.{entry_or};
-ghost use Rattle.blink_owners.specs.Filled.{overlaid, put_if_fits};
+ghost use Rattle.blink_owners.specs.Filled.{overlaid, put_if_fits, told_of};
 ghost use Rattle.blink_owners.specs.Found.{found_answer, pointer_or};
 
-use crate::raw::{RawAnswer, RawEntry};
+use crate::raw::{RawAnswer, RawEntry, RawScanned};
 use crate::refusal::{Code, DONE, Refusal};
 use blink_batch::Entry;
 use blink_index::{Index, Scan, ScanBack};
@@ -71,84 +71,68 @@ pub fn give_entry(found: Option<Entry>, entry: &mut RawEntry) -> bool
     }
 }
 
-/// Gives the entries whose keys are from `lo` to `hi`, as many as there are places, and returns how many there are.
-pub fn scan(index: &Index, lo: u64, hi: u64, entries: &mut [RawEntry], fitted: &mut usize) -> usize
-    ensures there { result ≡ length (filter (is_within lo hi) (map_of index.now)) }
+/// Gives the entries whose keys are from `lo` to `hi`, as many as there are places, and tells how far it came. Behind the first entry
+/// for which there is no place it reads no leaf.
+pub fn scan(index: &Index, lo: u64, hi: u64, entries: &mut [RawEntry], scanned: &mut RawScanned)
     ensures entries { entries.new
         ≡ overlaid (filter (is_within lo hi) (map_of index.now)) entries.old }
-    ensures fitted { fitted.new ≡ min result (length entries.old) }
+    ensures scanned { scanned.new
+        ≡ told_of (filter (is_within lo hi) (map_of index.now)) (length entries.old) }
 {
-    few_entries(index);
-    let there = fill_entries(index.scan(lo, hi), entries);
-    *fitted = there.min(entries.len());
-    there
+    *scanned = fill_entries(index.scan(lo, hi), entries);
 }
 
-/// Gives the first `n` entries whose keys are at least `lo`, as many as there are places, and returns how many there are, at most `n`.
-pub fn page(index: &Index, lo: u64, n: u64, entries: &mut [RawEntry], fitted: &mut usize) -> usize
-    ensures there { result ≡ length (take n (filter (is_from lo) (map_of index.now))) }
-    ensures entries { entries.new
-        ≡ overlaid (take n (filter (is_from lo) (map_of index.now))) entries.old }
-    ensures fitted { fitted.new ≡ min result (length entries.old) }
-{
-    few_entries(index);
-    let there = fill_entries(index.page(lo, n), entries);
-    *fitted = there.min(entries.len());
-    there
-}
-
-/// Gives the entries whose keys are from `lo` to `hi`, the greatest first, as many as there are places, and returns how many there
-/// are.
+/// The same, the greatest first.
 pub fn scan_back(
     index: &Index,
     lo: u64,
     hi: u64,
     entries: &mut [RawEntry],
-    fitted: &mut usize,
-) -> usize
-    ensures there { result ≡ length (filter (is_within lo hi) (map_of index.now)) }
+    scanned: &mut RawScanned,
+)
     ensures entries { entries.new
         ≡ overlaid (reverse (filter (is_within lo hi) (map_of index.now))) entries.old }
-    ensures fitted { fitted.new ≡ min result (length entries.old) }
+    ensures scanned { scanned.new
+        ≡ told_of (reverse (filter (is_within lo hi) (map_of index.now))) (length entries.old) }
 {
-    few_entries(index);
-    let there = fill_back(index.scan_back(lo, hi), entries);
-    *fitted = there.min(entries.len());
-    there
+    *scanned = fill_back(index.scan_back(lo, hi), entries);
 }
 
-/// Gives the last `n` entries whose keys are at most `hi`, the greatest first, as many as there are places, and returns how many
-/// there are, at most `n`.
-pub fn page_back(
-    index: &Index,
-    hi: u64,
-    n: u64,
-    entries: &mut [RawEntry],
-    fitted: &mut usize,
-) -> usize
-    ensures there { result ≡ min n (length (filter (is_up_to hi) (map_of index.now))) }
-    ensures entries { entries.new
-        ≡ overlaid (take n (reverse (filter (is_up_to hi) (map_of index.now)))) entries.old }
-    ensures fitted { fitted.new ≡ min result (length entries.old) }
+/// Counts the entries whose keys are from `lo` to `hi`. It walks their leaves.
+pub fn count(index: &Index, lo: u64, hi: u64) -> usize
+    ensures { result ≡ length (filter (is_within lo hi) (map_of index.now)) }
 {
     few_entries(index);
-    let there = fill_back(index.page_back(hi, n), entries);
-    *fitted = there.min(entries.len());
-    there
+    count_entries(index.scan(lo, hi))
 }
 
-// Gives entries, as many as there are places, and returns how many there are.
-fn fill_entries(mut scan: Scan<'_>, entries: &mut [RawEntry]) -> usize
+// Counts the entries that a scan gives.
+fn count_entries(mut scan: Scan<'_>) -> usize
     requires { length scan < 2 ^ 63 }
-    ensures there { result ≡ length scan.entry }
-    ensures entries { entries.new ≡ overlaid scan.entry entries.old }
+    ensures { result ≡ length scan.entry }
 {
     let mut there = 0usize;
     'runs: while let Some(part) = scan.next_run() {
-        set_run(entries, there, part);
         there += part.len();
     }
     there
+}
+
+// Gives entries, as many as there are places, and tells how far the scan came.
+fn fill_entries(mut scan: Scan<'_>, entries: &mut [RawEntry]) -> RawScanned
+    ensures entries { entries.new ≡ overlaid scan.entry entries.old }
+    ensures scanned { result ≡ told_of scan.entry (length entries.old) }
+{
+    let mut filled = 0usize;
+    'runs: while let Some(part) = scan.next_run() {
+        set_run(entries, filled, part);
+        let room = entries.len() - filled;
+        if room < part.len() {
+            return RawScanned::told(entries.len(), Some(part[room].0));
+        }
+        filled += part.len();
+    }
+    RawScanned::told(filled, None)
 }
 
 // Sets the places of the array from this one on to a run of entries, as far as the array has them.
@@ -166,18 +150,21 @@ fn set_run(entries: &mut [RawEntry], first: usize, run: &[(u64, u64)])
     }
 }
 
-// Gives the entries of a backward scan, as many as there are places, and returns how many there are.
-fn fill_back(mut scan: ScanBack<'_>, entries: &mut [RawEntry]) -> usize
-    requires { length scan < 2 ^ 63 }
-    ensures there { result ≡ length scan.entry }
+// Gives the entries of a backward scan, as many as there are places, and tells how far it came.
+fn fill_back(mut scan: ScanBack<'_>, entries: &mut [RawEntry]) -> RawScanned
     ensures entries { entries.new ≡ overlaid scan.entry entries.old }
+    ensures scanned { result ≡ told_of scan.entry (length entries.old) }
 {
-    let mut there = 0usize;
+    let mut filled = 0usize;
     'runs: while let Some(part) = scan.next_run() {
-        set_run_back(entries, there, part);
-        there += part.len();
+        set_run_back(entries, filled, part);
+        let room = entries.len() - filled;
+        if room < part.len() {
+            return RawScanned::told(entries.len(), Some(part[part.len() - 1 - room].0));
+        }
+        filled += part.len();
     }
-    there
+    RawScanned::told(filled, None)
 }
 
 // Sets the places of the array from this one on to a run of entries, the last first, as far as the array has them.

@@ -172,23 +172,26 @@ impl<'a> LiveRange<'a> {
 
     fn refill(&mut self) {
         let Some((lo, hi)) = self.range else { return };
-        let next = part(self.handle, self.scan, (lo, hi), &mut self.front);
+        // SAFETY: the handle is full, of what the call takes, and borrowed for writing; no operation is under way.
+        let next = unsafe { part(self.handle, self.scan, (lo, hi), &mut self.front) };
         self.range = next.map(|next| (next, hi));
     }
 
     fn refill_back(&mut self) {
         let Some((lo, hi)) = self.range else { return };
-        let next = part(self.handle, self.scan_back, (lo, hi), self.back.get_or_insert_with(Parts::new));
+        let back = self.back.get_or_insert_with(Parts::new);
+        // SAFETY: as in `refill`.
+        let next = unsafe { part(self.handle, self.scan_back, (lo, hi), back) };
         self.range = next.map(|next| (lo, next));
     }
 }
 
 // Takes another part of the entries of a range of keys out, and returns the key from which the next one goes on, if there is more. The
-// handle is full, and of what the call takes; no operation is under way.
-fn part(handle: &mut Handle, call: ScanCall, (lo, hi): (u64, u64), parts: &mut Parts) -> Option<u64> {
+// handle is full, of what the call takes, and this thread's alone; no operation is under way.
+pub(crate) unsafe fn part(handle: *mut Handle, call: ScanCall, (lo, hi): (u64, u64), parts: &mut Parts) -> Option<u64> {
     let places = parts.places();
     let mut scanned = RawScanned { filled: 0, more: 0, next: 0 };
-    // SAFETY: the handle is full and borrowed for writing; the array has that many elements.
+    // SAFETY: as the caller says; the array has that many elements.
     let code = unsafe { call(handle, lo, hi, places.as_mut_ptr(), places.len(), &mut scanned) };
     // No operation is under way, and a pass wasn't given back, by the types; nothing else is refused.
     assert_eq!(code, 0);

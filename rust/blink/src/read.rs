@@ -1,8 +1,8 @@
 //! Reading an index: what an index and a reader do alike.
 
 use crate::memory::resize;
-use crate::range::{first_and_last, Parts};
-use crate::sys::{self, Code, Handle, RawAnswer, RawEntry};
+use crate::range::{first_and_last, part, Parts};
+use crate::sys::{self, Code, Handle, RawAnswer, RawEntry, ScanCall};
 use crate::{Answer, Error};
 use std::cell::UnsafeCell;
 use std::fmt;
@@ -13,9 +13,9 @@ use std::ops::RangeBounds;
 pub(crate) struct Calls {
     find: unsafe extern "C" fn(*mut Handle, u64, *mut u64) -> bool,
     find_many: unsafe extern "C" fn(*mut Handle, *const u64, usize, *mut RawAnswer, usize) -> Code,
-    scan: PartCall,
-    page: PartCall,
-    page_back: PartCall,
+    scan: ScanCall,
+    scan_back: ScanCall,
+    count: unsafe extern "C" fn(*mut Handle, u64, u64) -> usize,
     first: unsafe extern "C" fn(*mut Handle, *mut RawEntry) -> bool,
     last: unsafe extern "C" fn(*mut Handle, *mut RawEntry) -> bool,
     next: NearCall,
@@ -31,8 +31,6 @@ pub(crate) struct Calls {
 
 type NearCall = unsafe extern "C" fn(*mut Handle, u64, *mut RawEntry) -> bool;
 
-type PartCall = unsafe extern "C" fn(*mut Handle, u64, u64, *mut RawEntry, usize, *mut usize) -> usize;
-
 /// What a handle is of.
 pub(crate) trait Kind {
     const CALLS: Calls;
@@ -45,8 +43,8 @@ impl Kind for OfIndex {
         find: sys::blink_index_find,
         find_many: sys::blink_index_find_many,
         scan: sys::blink_index_scan,
-        page: sys::blink_index_page,
-        page_back: sys::blink_index_page_back,
+        scan_back: sys::blink_index_scan_back,
+        count: sys::blink_index_count,
         first: sys::blink_index_first,
         last: sys::blink_index_last,
         next: sys::blink_index_next,
@@ -68,8 +66,8 @@ impl Kind for OfReader {
         find: sys::blink_reader_find,
         find_many: sys::blink_reader_find_many,
         scan: sys::blink_reader_scan,
-        page: sys::blink_reader_page,
-        page_back: sys::blink_reader_page_back,
+        scan_back: sys::blink_reader_scan_back,
+        count: sys::blink_reader_count,
         first: sys::blink_reader_first,
         last: sys::blink_reader_last,
         next: sys::blink_reader_next,
@@ -120,8 +118,8 @@ impl<K: Kind> Read<K> {
     pub(crate) fn range(&self, range: impl RangeBounds<u64>) -> Range<'_> {
         Range {
             handle: &self.handle,
-            page: K::CALLS.page,
-            page_back: K::CALLS.page_back,
+            scan: K::CALLS.scan,
+            scan_back: K::CALLS.scan_back,
             range: first_and_last(&range),
             front: Parts::new(),
             back: None,
@@ -131,10 +129,8 @@ impl<K: Kind> Read<K> {
     #[track_caller]
     pub(crate) fn count(&self, range: impl RangeBounds<u64>) -> usize {
         let Some((lo, hi)) = first_and_last(&range) else { return 0 };
-        let mut fitted = 0;
-        let mut none = [];
-        // SAFETY: as in `get`; the array has no element.
-        unsafe { (K::CALLS.scan)(self.handle(), lo, hi, none.as_mut_ptr(), 0, &mut fitted) }
+        // SAFETY: as in `get`.
+        unsafe { (K::CALLS.count)(self.handle(), lo, hi) }
     }
 
     pub(crate) fn first(&self) -> Option<(u64, u64)> {
@@ -222,8 +218,8 @@ fn found(call: impl FnOnce(*mut RawEntry) -> bool) -> Option<(u64, u64)> {
 pub struct Range<'a> {
     // It is full, and of the kind that the calls take.
     handle: &'a UnsafeCell<Handle>,
-    page: PartCall,
-    page_back: PartCall,
+    scan: ScanCall,
+    scan_back: ScanCall,
     // The keys that are still to be asked for, between those of the two parts.
     range: Option<(u64, u64)>,
     front: Parts,
@@ -235,14 +231,9 @@ impl Range<'_> {
     // Takes the next entries out of the index.
     fn refill(&mut self) {
         let Some((lo, hi)) = self.range else { return };
-        // SAFETY: the handle is full, and of the call's kind.
-        let (asked, entries) = unsafe { part(self.handle, self.page, lo, &mut self.front) };
-        let (within, next) = match entries.last() {
-            Some(last) if last.key <= hi => (entries.len(), last.key.checked_add(1)),
-            _ => (entries.partition_point(|entry| entry.key <= hi), None),
-        };
-        self.range = next.filter(|next| entries.len() == asked && *next <= hi).map(|next| (next, hi));
-        self.front.fill(within);
+        // SAFETY: the handle is full, and of the call's kind; this thread alone uses it, since a `Range` isn't `Send`.
+        let next = unsafe { part(self.handle.get(), self.scan, (lo, hi), &mut self.front) };
+        self.range = next.map(|next| (next, hi));
     }
 
     // Takes the last entries out of the index, the greatest first.
@@ -250,25 +241,9 @@ impl Range<'_> {
         let Some((lo, hi)) = self.range else { return };
         let back = self.back.get_or_insert_with(Parts::new);
         // SAFETY: as in `refill`.
-        let (asked, entries) = unsafe { part(self.handle, self.page_back, hi, back) };
-        let (within, next) = match entries.last() {
-            Some(first) if first.key >= lo => (entries.len(), first.key.checked_sub(1)),
-            _ => (entries.partition_point(|entry| entry.key >= lo), None),
-        };
-        self.range = next.filter(|next| entries.len() == asked && lo <= *next).map(|next| (lo, next));
-        back.fill(within);
+        let next = unsafe { part(self.handle.get(), self.scan_back, (lo, hi), back) };
+        self.range = next.map(|next| (lo, next));
     }
-}
-
-// The entries of another part, from a key on, and how many were asked for. The handle is full, and of the kind that the call takes; this
-// thread alone uses it, since a `Range` isn't `Send`.
-unsafe fn part<'a>(handle: &UnsafeCell<Handle>, call: PartCall, from: u64, parts: &'a mut Parts) -> (usize, &'a [RawEntry]) {
-    let places = parts.places();
-    let asked = places.len();
-    let mut fitted = 0;
-    // SAFETY: as the caller says; the array has that many elements.
-    let there = unsafe { call(handle.get(), from, asked as u64, places.as_mut_ptr(), asked, &mut fitted) };
-    (asked, &places[..there])
 }
 
 impl fmt::Debug for Range<'_> {

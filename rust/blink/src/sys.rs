@@ -135,14 +135,6 @@ extern "C" {
     pub(crate) fn blink_index_prev(index: *mut Handle, key: u64, entry: *mut RawEntry) -> bool;
     pub(crate) fn blink_index_at_least(index: *mut Handle, key: u64, entry: *mut RawEntry) -> bool;
     pub(crate) fn blink_index_at_most(index: *mut Handle, key: u64, entry: *mut RawEntry) -> bool;
-    pub(crate) fn blink_index_page_back(
-        index: *mut Handle,
-        hi: u64,
-        n: u64,
-        entries: *mut RawEntry,
-        places: usize,
-        fitted: *mut usize,
-    ) -> usize;
     pub(crate) fn blink_index_apply(
         index: *mut Handle,
         operations: *const RawOperation,
@@ -166,22 +158,23 @@ extern "C" {
         answers: *mut RawAnswer,
         places: usize,
     ) -> Code;
-    pub(crate) fn blink_index_page(
-        index: *mut Handle,
-        lo: u64,
-        n: u64,
-        entries: *mut RawEntry,
-        places: usize,
-        fitted: *mut usize,
-    ) -> usize;
     pub(crate) fn blink_index_scan(
         index: *mut Handle,
         lo: u64,
         hi: u64,
         entries: *mut RawEntry,
         places: usize,
-        fitted: *mut usize,
-    ) -> usize;
+        scanned: *mut RawScanned,
+    ) -> Code;
+    pub(crate) fn blink_index_scan_back(
+        index: *mut Handle,
+        lo: u64,
+        hi: u64,
+        entries: *mut RawEntry,
+        places: usize,
+        scanned: *mut RawScanned,
+    ) -> Code;
+    pub(crate) fn blink_index_count(index: *mut Handle, lo: u64, hi: u64) -> usize;
     pub(crate) fn blink_index_len(index: *mut Handle) -> usize;
     pub(crate) fn blink_index_pages(index: *mut Handle) -> u32;
     pub(crate) fn blink_index_fan(index: *mut Handle) -> u8;
@@ -205,30 +198,23 @@ extern "C" {
         hi: u64,
         entries: *mut RawEntry,
         places: usize,
-        fitted: *mut usize,
-    ) -> usize;
-    pub(crate) fn blink_reader_page(
+        scanned: *mut RawScanned,
+    ) -> Code;
+    pub(crate) fn blink_reader_scan_back(
         reader: *mut Handle,
         lo: u64,
-        n: u64,
+        hi: u64,
         entries: *mut RawEntry,
         places: usize,
-        fitted: *mut usize,
-    ) -> usize;
+        scanned: *mut RawScanned,
+    ) -> Code;
+    pub(crate) fn blink_reader_count(reader: *mut Handle, lo: u64, hi: u64) -> usize;
     pub(crate) fn blink_reader_first(reader: *mut Handle, entry: *mut RawEntry) -> bool;
     pub(crate) fn blink_reader_last(reader: *mut Handle, entry: *mut RawEntry) -> bool;
     pub(crate) fn blink_reader_next(reader: *mut Handle, key: u64, entry: *mut RawEntry) -> bool;
     pub(crate) fn blink_reader_prev(reader: *mut Handle, key: u64, entry: *mut RawEntry) -> bool;
     pub(crate) fn blink_reader_at_least(reader: *mut Handle, key: u64, entry: *mut RawEntry) -> bool;
     pub(crate) fn blink_reader_at_most(reader: *mut Handle, key: u64, entry: *mut RawEntry) -> bool;
-    pub(crate) fn blink_reader_page_back(
-        reader: *mut Handle,
-        hi: u64,
-        n: u64,
-        entries: *mut RawEntry,
-        places: usize,
-        fitted: *mut usize,
-    ) -> usize;
     pub(crate) fn blink_reader_len(reader: *mut Handle) -> usize;
     pub(crate) fn blink_reader_pages(reader: *mut Handle) -> u32;
     pub(crate) fn blink_reader_fan(reader: *mut Handle) -> u8;

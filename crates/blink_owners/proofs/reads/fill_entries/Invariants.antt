@@ -1,5 +1,5 @@
--- The entries so far stand in the first places, and each is counted.
-use Rattle.std.proofs.Common.{◌≡◌, List, ◌++◌, length}
+-- The entries so far stand in the first places, all of them, and each is counted.
+use Rattle.std.proofs.Common.{◌≡◌, ◌≤◌, List, ◌++◌, length}
 use Rattle.blink_batch.specs.declared.Entry.{Entry}
 use Rattle.blink_owners.specs.Filled.{overlaid}
 use Rattle.blink_owners.proofs.reads.fill_entries.Given as goal
@@ -9,7 +9,8 @@ invariant-runs l = record {
   shown : List Entry;
   in_order : l.fn.scan ≡ shown ++ l.scan;
   overlaid_so_far : l.entries ≡ overlaid shown l.initial.entries;
-  counted : l.there ≡ length shown;
+  counted : l.filled ≡ length shown;
+  fitted : l.filled ≤ length l.initial.entries;
 }
 
 -- fewer entries are to come each time
