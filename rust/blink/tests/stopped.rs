@@ -160,10 +160,12 @@ fn rows_come_back_though_the_reader_is_always_inside_a_call() {
 
 // ---- a change that is stopped at each of its instructions
 
-#[test]
-fn a_change_that_is_stopped_anywhere_is_made_or_not() {
+// The change comes behind so many others of its leaf.
+fn is_made_or_not_behind(others: u32) {
     let map = map_of_four(2);
     let mut writer = Writer::new(&map);
+    assert_eq!(writer.replaces_at_most(others), others);
+    let first = writer.pointer;
     let mut reader = map.session().unwrap();
     let (mut instructions, mut shown) = (0u32, Vec::with_capacity(2));
     let replaced = by_instruction(
@@ -180,9 +182,16 @@ fn a_change_that_is_stopped_anywhere_is_made_or_not() {
     );
     assert!(replaced && instructions > 100, "{instructions}");
     // The change is seen at once, and stays.
-    assert_eq!(shown, [Some(FIRST), Some(FIRST + 1)]);
+    assert_eq!(shown, [Some(first), Some(first + 1)]);
     drop((writer, reader));
-    assert!(map.close().unwrap().iter().eq([(1, FIRST + 1), (2, 20), (3, 30), (4, 40)]));
+    assert!(map.close().unwrap().iter().eq([(1, first + 1), (2, 20), (3, 30), (4, 40)]));
+}
+
+#[test]
+fn a_change_that_is_stopped_anywhere_is_made_or_not() {
+    // one that is appended, and one that writes a row
+    is_made_or_not_behind(0);
+    is_made_or_not_behind(PER_ROW - 1);
 }
 
 // Goes on with a change until it has ended.
@@ -351,14 +360,14 @@ fn stops_and_writes(writer: &mut Writer, told: &Told) -> (u32, u32) {
     for stops in 0..STOPS {
         stop(told.thread.load(SeqCst));
         inside += u32::from(told.inside.load(SeqCst));
-        held += u32::from(!(0..3 * ROWS).all(|_| replaces(writer, told)));
+        held += u32::from(!(0..3 * ROWS * PER_ROW).all(|_| replaces(writer, told)));
         go_on();
         // Not each stop falls on the same place of the reader's loop.
         for _ in 0..stops % 50 {
             std::hint::spin_loop();
         }
         // The reader comes to the end of its call, and all rows are written some times more.
-        let mut left = 5 * ROWS;
+        let mut left = 5 * ROWS * PER_ROW;
         while left > 0 {
             if replaces(writer, told) {
                 left -= 1;
@@ -394,7 +403,7 @@ fn a_reader_that_sleeps_in_a_call_holds_rows_back_until_it_wakes() {
     // A reader that holds rows back is inside a call.
     assert!(inside >= held && held > 0, "{calls} calls, {inside} stops inside, {held} with a mark");
     let last = writer.pointer;
-    assert!(last >= FIRST + u64::from(STOPS) * 5 * u64::from(ROWS));
+    assert!(last >= FIRST + u64::from(STOPS) * 5 * u64::from(ROWS * PER_ROW));
     drop(writer);
     assert!(map.close().unwrap().iter().eq([(1, last), (2, 20), (3, 30), (4, 40)]));
 }
