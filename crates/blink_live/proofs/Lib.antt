@@ -6,6 +6,7 @@ pub mod found
 pub mod scanned
 pub mod looked
 pub mod changed
+pub mod added
 pub mod told
 pub mod retired
 pub mod handed

@@ -22,6 +22,3 @@ pub mod PlacesAreMarked
 pub mod RoomComesBack
 pub mod PoolIsDrawn
 pub mod OperationsRest
-pub mod WordsAreAdded
-pub mod RecordsAreCounted
-pub mod RecordsAreAppended

@@ -7,7 +7,7 @@ use Rattle.blink_live.specs.AtomicSteps.{adds_word}
 use Rattle.blink_live.specs.Rule.{IsTable}
 use Rattle.blink_live.specs.Views.{SeatState, plan_of}
 use Rattle.blink_live.specs.Words.{row_start}
-use Rattle.blink_live.proofs.changed.WordsAreAdded.{word_is_added}
+use Rattle.blink_live.proofs.added.WordsAreAdded.{word_is_added}
 use Rattle.blink_live.proofs.live.Live.add_word.Goals as goal
 
 pub store-requires : goal.store-requires

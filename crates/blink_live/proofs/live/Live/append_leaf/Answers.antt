@@ -5,7 +5,7 @@ use Rattle.blink_machine.specs.{page_out}
 use Rattle.blink_live.specs.Additions.{CountsAdded, IsNextWord}
 use Rattle.blink_live.specs.Seats.{HasSameNumber}
 use Rattle.blink_live.specs.Straight.{added_nothing, changing}
-use Rattle.blink_live.proofs.changed.RecordsAreAppended.{key_added, key_next, pointer_next, record_counted, told_in_range, under_way_keyed, under_way_then}
+use Rattle.blink_live.proofs.added.RecordsAreAppended.{key_added, key_next, pointer_next, record_counted, told_in_range, under_way_keyed, under_way_then}
 use Rattle.blink_live.proofs.changed.UpdatesGoOn as on
 use Rattle.blink_live.proofs.live.Live.append_leaf.Goals as goal
 

@@ -1,7 +1,7 @@
 use Rattle.std.proofs.Common.{ℕ, arith}
 use Rattle.blink_live.specs.declared.view.Plan.{Plan}
 use Rattle.blink_live.specs.Views.{SeatState, plan_of}
-use Rattle.blink_live.proofs.changed.RecordsAreCounted.{record_is_counted}
+use Rattle.blink_live.proofs.added.RecordsAreCounted.{record_is_counted}
 use Rattle.blink_live.proofs.live.Live.count_added.Goals as goal
 
 pub store-requires : goal.store-requires

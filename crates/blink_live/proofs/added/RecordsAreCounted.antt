@@ -34,7 +34,7 @@ use Rattle.blink_live.specs.Words.{place_word, word_count, RowBegins, named_row,
 use Rattle.blink_live.proofs.changed.ChangesAreTheMaps.{after-append, states_of-append}
 use Rattle.blink_live.proofs.changed.PublishesKeepTable.{BecomesWritten, becomes_written, page_its, page_stepped, page_then, page_tree, page_well}
 use Rattle.blink_live.proofs.changed.RowsArePublished.{ChangesOwn, IsStepOfTree, ways_stay}
-use Rattle.blink_live.proofs.changed.WordsAreAdded.{content_is}
+use Rattle.blink_live.proofs.added.WordsAreAdded.{content_is}
 use Rattle.blink_live.proofs.reuse.ReuseStaysSafe.{hand_stays, reuse_stays, same_reads}
 use Rattle.blink_live.proofs.table.PoolStays.{pool_stays}
 use Rattle.blink_live.proofs.table.MapsWithOneChange.{put_here, put_else}

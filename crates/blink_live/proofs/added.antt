@@ -1,0 +1,3 @@
+pub mod WordsAreAdded
+pub mod RecordsAreCounted
+pub mod RecordsAreAppended
