@@ -5,6 +5,9 @@ pub mod RecordsAreTaken
 pub mod WalksOverLeaves
 pub mod KeysAreCopied
 pub mod KeysAreMet
+pub mod WalksBack
+pub mod KeysAreCopiedBack
+pub mod KeysAreMetBack
 pub mod LeavesAreCopied
 pub mod ReportsGoOn
 pub mod EntriesBehind

@@ -1,6 +1,6 @@
 -- A leaf whose row has records: the newest record of each key, and a walk over them and the base's entries by ascending keys.
-use Rattle.std.specs.Prelude.{◌≡◌, ℕ, suc, ◌+◌, ◌<◌, ◌≤◌, ◌==◌, nat_le, if◌then◌else◌, Option, Some, List, [], ◌∷◌}
-use Rattle.blink_page.specs.{PlainPage, value_at}
+use Rattle.std.specs.Prelude.{◌≡◌, ℕ, suc, ◌+◌, ◌<◌, ◌≤◌, ◌==◌, nat_le, if◌then◌else◌, Option, Some, List, [], ◌∷◌, ◌++◌}
+use Rattle.blink_page.specs.{PlainPage, least_above, value_at}
 use Rattle.blink_rows.specs.{pointer_after}
 use Rattle.blink_rows.specs.declared.log.Record.{Record}
 
@@ -29,8 +29,9 @@ told (r ∷ rest) key kept = if r.key == key then pointer_after r else told rest
 
 -- these are the newest records of the keys that make this page of this base
 pub record AreNewest (base page : PlainPage) (records : List Record) : Type 0 where
+  pub same_floor : page.floor ≡ base.floor
   pub same_high : page.high ≡ base.high
-  pub rise : RecordsRise 0 records (base.high + 1)
+  pub rise : RecordsRise (least_above base.floor) records (base.high + 1)
   pub tell : (key : ℕ) → value_at key page.entries ≡ told records key (value_at key base.entries)
 
 -- ---- a walk
@@ -52,3 +53,25 @@ pub data IsNext (entries : List (ℕ × ℕ)) (records : List Record) (key : ℕ
       → IsNext entries records key kept entries_left records_left
   in_both : (r : Record) (pointer : ℕ) → entries ≡ (key, pointer) ∷ entries_left → records ≡ r ∷ records_left → r.key ≡ key → kept ≡ pointer_after r
       → IsNext entries records key kept entries_left records_left
+
+-- ---- a walk from behind
+
+-- the key is above the last of these entries, or records
+abbrev pub IsAboveEntries : ℕ → List (ℕ × ℕ) → Type 0
+IsAboveEntries key [] = Unit {0}
+IsAboveEntries key ((k, v) ∷ []) = k < key
+IsAboveEntries key (e ∷ f ∷ rest) = IsAboveEntries key (f ∷ rest)
+
+abbrev pub IsAboveRecords : ℕ → List Record → Type 0
+IsAboveRecords key [] = Unit {0}
+IsAboveRecords key (r ∷ []) = r.key < key
+IsAboveRecords key (r ∷ s ∷ rest) = IsAboveRecords key (s ∷ rest)
+
+-- the greatest key of these entries and records, and the pointer that it has; those before it are left
+pub data IsPrevious (entries : List (ℕ × ℕ)) (records : List Record) (key : ℕ) (kept : Option ℕ) (entries_left : List (ℕ × ℕ)) (records_left : List Record) : Type 0 where
+  entry_last : (pointer : ℕ) → entries ≡ entries_left ++ (key, pointer) ∷ [] → kept ≡ Some pointer → records_left ≡ records → IsAboveRecords key records
+      → IsPrevious entries records key kept entries_left records_left
+  record_last : (r : Record) → records ≡ records_left ++ r ∷ [] → r.key ≡ key → kept ≡ pointer_after r → entries_left ≡ entries → IsAboveEntries key entries
+      → IsPrevious entries records key kept entries_left records_left
+  both_last : (r : Record) (pointer : ℕ) → entries ≡ entries_left ++ (key, pointer) ∷ [] → records ≡ records_left ++ r ∷ [] → r.key ≡ key → kept ≡ pointer_after r
+      → IsPrevious entries records key kept entries_left records_left

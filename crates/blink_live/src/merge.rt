@@ -1,12 +1,12 @@
 //! The keys of a leaf whose row has records. The newest record of each key is taken once, by ascending keys; then one walk goes over
-//! these records and over the entries of the base.
-ghost use Rattle.std.specs.Prelude.{◌≡◌, ℕ, ◌+◌, ◌<◌, ◌≤◌, IfNone, IfSome, IsFalse, IsTrue, Some, drop, length};
+//! these records and over the entries of the base, from the front or from behind.
+ghost use Rattle.std.specs.Prelude.{◌≡◌, ℕ, ◌+◌, ◌<◌, ◌≤◌, IfNone, IfSome, IsFalse, IsTrue, Some, drop, length, take};
 ghost use Rattle.arrayvec.specs.ArrayVec.{array_vec_len};
 ghost use Rattle.blink_page.specs.{PlainPage};
 ghost use Rattle.blink_page.specs.declared.limits.TheConstants.{MAX_FAN};
 ghost use Rattle.blink_rows.specs.{pointer_after, row_in};
 ghost use Rattle.blink_rows.specs.declared.limits.TheConstants.{ROW_WORDS};
-ghost use Rattle.blink_live.specs.Merging.{AreNewest, IsNext, place_among, with_older};
+ghost use Rattle.blink_live.specs.Merging.{AreNewest, IsNext, IsPrevious, place_among, with_older};
 ghost use Rattle.blink_live.specs.Seats.{IsPassSeat, IsSameSeat, ReadsPage, ReadsVersion};
 ghost use Rattle.blink_live.specs.Words.{IsRowNumber, row_start, word_count};
 
@@ -20,9 +20,9 @@ use blink_rows::{HEAD_WORDS, MAX_RECORDS, Record, records_in, row_in};
 /// How far a walk has come.
 #[derive(Clone, Copy)]
 pub(crate) struct Walk {
-    /// The number of the base's entries that it has passed.
+    /// The number of the base's entries before its place.
     pub entries: usize,
-    /// The number of the newest records that it has passed.
+    /// The number of the newest records before its place.
     pub records: usize,
 }
 
@@ -107,6 +107,85 @@ impl Live {
         }
         let record = &newest[walk.records];
         Some(met_record(record, walk, record.key == key))
+    }
+
+    // The key before those that a walk from behind has passed, in the same leaf. `None` at the leaf's begin.
+    pub(crate) fn key_before(
+        &self,
+        seat: &mut Seat<u8, View>,
+        start: usize,
+        newest: &[Record],
+        walk: Walk,
+    ) -> Option<Met>
+        requires seat { IsPassSeat self.now seat.old.table_id seat.old.me }
+        requires inside { start + ROW_WORDS ≤ word_count self.now.counts }
+        requires few { (walk.entries ≤ MAX_FAN) × (length newest.now ≤ MAX_RECORDS) }
+        requires walk { walk.records ≤ length newest.now }
+        ensures same { IsSameSeat seat.old seat.new }
+        ensures none { IfNone result ((walk.entries ≡ 0) × (walk.records ≡ 0)) }
+        ensures inside { IfSome result
+            (λ met. (met.walk.entries ≤ walk.entries) × (met.walk.records ≤ walk.records)) }
+        ensures further { IfSome result
+            (λ met. met.walk.entries + met.walk.records < walk.entries + walk.records) }
+        ensures met { IfSome result (λ met. (row : ℕ) (base : PlainPage)
+            → start ≡ row_start self.now.counts row
+            → ReadsPage seat.old.me row base
+            → walk.entries ≤ length base.entries
+            → IsPrevious (take walk.entries base.entries) (take walk.records newest.now) met.key
+            met.pointer (take met.walk.entries base.entries) (take met.walk.records newest.now)) }
+    {
+        if walk.entries == 0 {
+            if walk.records == 0 {
+                return None;
+            }
+            return Some(last_record(&newest[walk.records - 1], walk, false));
+        }
+        let at = HEAD_WORDS + ENTRY_WORDS * (walk.entries - 1);
+        let key = self.load_word(seat, start, at);
+        if walk.records == 0 || key > newest[walk.records - 1].key {
+            let pointer = self.load_word(seat, start, at + 1);
+            return Some(last_entry(key, pointer, walk));
+        }
+        let record = &newest[walk.records - 1];
+        Some(last_record(record, walk, record.key == key))
+    }
+}
+
+// A walk from behind meets an entry, of whose key there is no record.
+fn last_entry(key: u64, pointer: u64, walk: Walk) -> Met
+    requires { 0 < walk.entries }
+    ensures key { result.key ≡ key }
+    ensures pointer { result.pointer ≡ Some pointer }
+    ensures entries { walk.entries ≡ result.walk.entries + 1 }
+    ensures records { result.walk.records ≡ walk.records }
+{
+    Met {
+        key,
+        pointer: Some(pointer),
+        walk: Walk {
+            entries: walk.entries - 1,
+            records: walk.records,
+        },
+    }
+}
+
+// A walk from behind meets a record, and an entry of its key if there is one.
+fn last_record(newest: &Record, walk: Walk, has_entry: bool) -> Met
+    requires entries { IsTrue has_entry → 0 < walk.entries }
+    requires records { 0 < walk.records }
+    ensures key { result.key ≡ newest.now.key }
+    ensures pointer { result.pointer ≡ pointer_after newest.now }
+    ensures records { walk.records ≡ result.walk.records + 1 }
+    ensures with_entry { IsTrue has_entry → walk.entries ≡ result.walk.entries + 1 }
+    ensures without { IsFalse has_entry → result.walk.entries ≡ walk.entries }
+{
+    let entries = walk.entries - usize::from(has_entry);
+    let records = walk.records - 1;
+    let pointer = newest.pointer_after();
+    Met {
+        key: newest.key,
+        pointer,
+        walk: Walk { entries, records },
     }
 }
 

@@ -7,11 +7,12 @@
 //! left are of a later one.
 ghost use Rattle.std.specs.Prelude.{◌≡◌, ◌+◌, ◌<◌, ◌≤◌, ℕ, List, Option, Some, IfNone, IfSome, length, take, drop, reverse};
 ghost use Rattle.blink_batch.specs.declared.Entry.{Entry};
-ghost use Rattle.blink_page.specs.{PlainPage, least_above};
+ghost use Rattle.blink_page.specs.{PlainPage};
 ghost use Rattle.blink_rows.specs.{row_in};
-ghost use Rattle.blink_rows.specs.declared.limits.TheConstants.{ROW_WORDS};
+ghost use Rattle.blink_rows.specs.declared.limits.TheConstants.{MAX_RECORDS, ROW_WORDS};
 ghost use Rattle.blink_live.specs.Finding.{IsIdle};
 ghost use Rattle.blink_live.specs.Handles.{IsPassOf, IsSameBesideSeen, KnowsItsKeys, keys_of, opening_of, seen_of, share_of};
+ghost use Rattle.blink_live.specs.Merging.{AreNewest};
 ghost use Rattle.blink_live.specs.Scanning.{IsCopied, IsFilled, SaysOfKeys, StoppedFull};
 ghost use Rattle.blink_live.specs.ScanningBack.{HasScannedBack, IsReportBack, ReportBackLaw, start_of};
 ghost use Rattle.blink_live.specs.Seats.{HasLesser, HasSameNumber, IsPassSeat, IsSameSeat, ReadsLeaf, ReadsPage};
@@ -19,13 +20,13 @@ ghost use Rattle.blink_live.specs.Views.{known_of};
 ghost use Rattle.blink_live.specs.Words.{IsRowNumber, row_start, word_count};
 
 use crate::live::{Live, Pass};
+use crate::merge::Walk;
 use crate::scan::Scanned;
 use crate::view::View;
 use atomic_table::Seat;
 use blink_batch::Entry;
-use blink_page::Page;
 use blink_rows::layout::{COUNT, ENTRY_WORDS, FLOOR, HAS_FLOOR};
-use blink_rows::{HEAD_WORDS, records_in, row_in};
+use blink_rows::{HEAD_WORDS, Record, records_in, row_in};
 
 impl Live {
     /// Reports the entries whose keys are from `lo` to `hi`, both included, in descending order, whatever other passes do at the
@@ -122,8 +123,8 @@ impl Live {
         if records_in(word).count == 0 {
             return self.copy_row_back(seat, row_in(word), lo, from, into);
         }
-        let page = self.page_in_row(seat, word);
-        copy_page_back(&page, lo, from, into)
+        let newest = self.newest_records(seat, word);
+        self.copy_merged_back(seat, row_in(word), &newest, lo, from, into)
     }
 
     // The same of a leaf that has no records.
@@ -170,6 +171,65 @@ impl Live {
         Scanned { filled, next }
     }
 
+    // The same of a leaf that has records: these are the newest of their keys.
+    fn copy_merged_back(
+        &self,
+        seat: &mut Seat<u8, View>,
+        row: u64,
+        newest: &[Record],
+        lo: u64,
+        from: u64,
+        into: &mut [Entry],
+    ) -> Scanned
+        requires seat { IsPassSeat self.now seat.old.table_id seat.old.me }
+        requires row { IsRowNumber self.now.counts row }
+        requires few { length newest.now ≤ MAX_RECORDS }
+        requires leaf { (base : PlainPage) × (leaf : PlainPage) × ReadsPage seat.old.me row base
+            × AreNewest base leaf newest.now × HasLesser (known_of seat.old.me.0) from leaf
+            × (from ≤ leaf.high) }
+        requires range { lo ≤ from }
+        requires some_place { 1 ≤ length into.old }
+        ensures same { IsSameSeat seat.old seat.new }
+        ensures copied { (entries : List Entry) × IsFilled (reverse entries) into.old into.new
+            × (result.filled ≡ length entries)
+            × IsCopied (known_of seat.old.me.0) (start_of lo result.next) (from + 1) entries }
+        ensures further { IfSome result.next (λ next. (lo ≤ next) × (next < from)) }
+    {
+        let start = self.row_place(row);
+        let mut walk = Walk {
+            entries: self.load_word(seat, start, COUNT) as usize,
+            records: newest.len(),
+        };
+        let mut filled = 0;
+        while let Some(met) = self.key_before(seat, start, newest, walk) {
+            if met.key < lo {
+                return Scanned { filled, next: None };
+            }
+            walk = met.walk;
+            if met.key > from {
+                continue;
+            }
+            let Some(pointer) = met.pointer else {
+                continue;
+            };
+            if filled == into.len() {
+                return Scanned {
+                    filled,
+                    next: Some(met.key),
+                };
+            }
+            into[filled] = Entry {
+                key: met.key,
+                pointer,
+            };
+            filled += 1;
+        }
+        Scanned {
+            filled,
+            next: not_below(lo, self.load_floor(seat, start)),
+        }
+    }
+
     // Loads the floor of the page whose row begins at `start`.
     fn load_floor(&self, seat: &mut Seat<u8, View>, start: usize) -> Option<u64>
         requires seat { IsPassSeat self.now seat.old.table_id seat.old.me }
@@ -183,41 +243,6 @@ impl Live {
             return None;
         }
         Some(self.load_word(seat, start, FLOOR))
-    }
-}
-
-// Copies entries of a page in this way.
-fn copy_page_back(page: &Page, lo: u64, from: u64, into: &mut [Entry]) -> Scanned
-    requires belongs { least_above page.now.floor ≤ from }
-    requires range { lo ≤ from }
-    requires some_place { 1 ≤ length into.old }
-    ensures copied { (known : ℕ → Option ℕ) → HasLesser known from page.now
-        → (entries : List Entry) × IsFilled (reverse entries) into.old into.new
-        × (result.filled ≡ length entries)
-        × IsCopied known (start_of lo result.next) (from + 1) entries }
-    ensures further { IfSome result.next (λ next. (lo ≤ next) × (next < from)) }
-{
-    let items: &[(u64, u64)] = &page.items;
-    let mut filled = 0;
-    for place in (0..items.len()).rev() {
-        let (key, pointer) = items[place];
-        if key < lo {
-            return Scanned { filled, next: None };
-        }
-        if key <= from {
-            if filled == into.len() {
-                return Scanned {
-                    filled,
-                    next: Some(key),
-                };
-            }
-            into[filled] = Entry { key, pointer };
-            filled += 1;
-        }
-    }
-    Scanned {
-        filled,
-        next: not_below(lo, page.floor),
     }
 }
 

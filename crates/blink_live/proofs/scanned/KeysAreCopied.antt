@@ -9,7 +9,7 @@ use Rattle.blink_batch.specs.{IsAscending, entry, pointer_of}
 use Rattle.blink_page.specs.{IsLawfulPage, IsRising, PlainPage, least_above}
 use Rattle.blink_page.specs.declared.limits.TheConstants.{MAX_FAN}
 use Rattle.blink_rows.specs.declared.log.Record.{Record}
-use Rattle.blink_live.specs.Merging.{AreNewest}
+use Rattle.blink_live.specs.Merging.{AreNewest, RecordsRise}
 use Rattle.blink_live.specs.Scanning.{IsBetween, IsCopied, IsFilled}
 use Rattle.blink_live.specs.Seats.{HasStates}
 use Rattle.blink_live.proofs.scanned.PlacesAreFilled.{filled_more, filled_none}
@@ -91,6 +91,10 @@ rises_from_0 : (from to : ℕ) (es : List (ℕ × ℕ)) → IsRising from es to 
 rises_from_0 from to [] rises = omega arith
 rises_from_0 from to ((k, v) ∷ rest) rises = (omega arith, rises.1)
 
+records_from_0 : (from to : ℕ) (rs : List Record) → RecordsRise from rs to → RecordsRise 0 rs to
+records_from_0 from to [] rise = omega arith
+records_from_0 from to (r ∷ rest) rise = (omega arith, rise.1)
+
 -- it begins
 pub merged_none : (known : ℕ → Option ℕ) (from hi : ℕ) (base leaf : PlainPage) (records : List Record) (old : List Entry) → IsLawfulPage MAX_FAN base → AreNewest base leaf records → HasStates known from leaf
     → HasMerged known from hi (base.high + 1) base.entries records old old 0
@@ -98,7 +102,7 @@ merged_none known from hi base leaf records old lawful newest has = record {
   cursor = 0;
   merging = record {
     rises = rises_from_0 (least_above base.floor) (base.high + 1) base.entries lawful.keys_rise;
-    ascend = newest.rise;
+    ascend = records_from_0 (least_above base.floor) (base.high + 1) records newest.rise;
     says = λ key low reached less. sym (has.states key low (let high = newest.same_high in omega (arith, less, high))) ∙ newest.tell key;
   };
   within = omega arith;

@@ -25,7 +25,7 @@ pub record GoesOn (known : ℕ → Option ℕ) (low stop cursor key : ℕ) (kept
 
 -- ---- the rest begins behind the key
 
-records_at_most : (from to : ℕ) (rs : List Record) → RecordsRise from rs to → from ≤ to
+pub records_at_most : (from to : ℕ) (rs : List Record) → RecordsRise from rs to → from ≤ to
 records_at_most from to [] rise = rise
 records_at_most from to (r ∷ rest) rise = let low = rise.0 in let more = records_at_most (r.key + 1) to rest rise.1 in omega (arith, low, more)
 

@@ -1,17 +1,14 @@
-use Rattle.std.proofs.Common.{◌≡◌, ℕ, suc, ◌+◌, ◌-◌, ◌<◌, ◌≤◌, Option, Some, List, length, get_or, drop, refl, sym, ap, ◌∙◌, subst, arith}
+use Rattle.std.proofs.Common.{◌≡◌, ℕ, suc, ◌+◌, ◌-◌, ◌<◌, Option, Some, List, length, drop, refl, sym, ap, ◌∙◌, subst, arith}
 use Rattle.std.proofs.lemmas.List.{length-reverse}
 use Rattle.std.specs.Prelude.{slice_index}
-use Rattle.atomic_table.specs.declared.Seat.{Seat}
-use Rattle.blink_batch.specs.declared.Entry.{Entry}
 use Rattle.blink_page.specs.{PlainPage}
 use Rattle.blink_rows.specs.{page_words}
-use Rattle.blink_live.specs.declared.view.View.{View}
 use Rattle.blink_live.specs.Seats.{ReadsPage}
 use Rattle.blink_live.specs.Views.{SeatState, known_of}
 use Rattle.blink_live.proofs.found.FindsOfSeveral.{same_seat}
 use Rattle.blink_live.proofs.found.EntriesInRow.{key_inside, key_word, value_inside, value_word}
 use Rattle.blink_live.proofs.scanned.EntriesBetween.{between}
-use Rattle.blink_live.proofs.scanned.LeavesAreCopiedBack.{HasCopiedBack, copied_more_back, copied_none_back, copied_past_back, ends_at_floor, ends_at_lo, ends_at_place_back, floor_is_before, place_is_before}
+use Rattle.blink_live.proofs.scanned.LeavesAreCopiedBack.{copied_more_back, copied_none_back, copied_past_back, ends_at_floor, ends_at_lo, ends_at_place_back, floor_is_before, place_is_before}
 use Rattle.blink_live.proofs.live.Live.copy_row_back.Goals as goal
 
 pub load_word-key-requires-clause-seat : goal.load_word-key-requires-clause-seat

@@ -1,4 +1,4 @@
-use Rattle.std.proofs.Common.{◌≡◌, ◌≤◌, length}
+use Rattle.std.proofs.Common.{◌≤◌, length}
 use Rattle.blink_page.specs.{PlainPage}
 use Rattle.blink_live.specs.Seats.{IsSameSeat, ReadsPage}
 use Rattle.blink_live.proofs.scanned.LeavesAreCopiedBack.{HasCopiedBack}
