@@ -1,8 +1,8 @@
 -- What the exports of `blink_c` promise stands in the definitions of `blink_owners`, whose Lib.antt lists them. No crate stands on this
 -- one: its callers are C and Rust programs.
 
--- what each handle owns, and what it is once what it lent comes back
 -- ---- files that no crate above names
+-- what each handle owns, and what it is once what it lent comes back
 pub mod IndexOwned
 pub mod IndexLending
 pub mod TableOwned
@@ -15,5 +15,5 @@ pub mod SessionOwned
 pub mod SessionLending
 pub mod ReaderOwned
 pub mod ReaderLending
-pub mod Changing
 -- what an export makes of a session or a pass by which an operation runs or begins
+pub mod Changing

@@ -12,7 +12,6 @@ pub use Rattle.blink_entries.specs.Dump.{entry_text, text_of_store, words_of}
 pub use Rattle.blink_entries.specs.Laws.{MapIsKept, NoOtherMapIsKept, TextIsOfLevels}
 -- trees in as few pages as their entries need
 pub use Rattle.blink_entries.specs.Packed.{AreFewest, ExceedsNumbers, IsFewest, IsInOrder, NeedsPages, numbered}
-
 -- ---- for proofs above
 pub use Rattle.blink_entries.specs.Packing.{AreEnough, AreLeaves, entries_in}
 -- ---- files that crates above name

@@ -13,7 +13,7 @@ use Rattle.std.specs.Arc.{arc_value}
 use Rattle.atomic_table.specs.Table.{rest}
 use Rattle.blink_batch.specs.declared.Entry.{Entry}
 use Rattle.blink_batch.specs.{pointer_of}
-use Rattle.blink_live.specs.{HaveAuthors, IsReport, IsSnapshot, StoppedFull, after, changes_made, made_at, put, stop_of}
+use Rattle.blink_live.specs.{HaveAuthors, IsReport, IsReportBack, IsSnapshot, StoppedFull, after, changes_made, made_at, put, stop_of}
 use Rattle.blink_live.specs.declared.view.Change.{Change}
 use Rattle.blink_live.specs.declared.view.Plan.{Plan}
 use Rattle.blink_live.proofs.Offered.{after-append, made_at-append, prefix_of_prefix}
@@ -259,6 +259,21 @@ module _ (slot : ℕ) (me out : SlotSeat) (held : Current) (idle : IsIdle slot m
       };
       exact = λ key from below. report.exact key from below ∙ left_by_all first same_first (report.front key) key (fits key below);
       ascending = report.ascending;
+      between = report.between;
+    }
+
+    -- and so is a backward report
+    pub report_back_all : (first : List Entry) → me.0.first ≡ first → (lo hi : ℕ) (entries : List Entry) → hi < 2 ^ 64 → IsReportBack (opening_of (arc_value held.map)) (seen_by held.session) (seen_by session) lo hi entries
+        → IsReportBack first (own_of me.0).seen (own_of after_me.0).seen lo hi entries
+    report_back_all first same_first lo hi entries fits report = record {
+      front = λ key. taken.now.past ++ report.front key;
+      fronts = record {
+        descend = λ key greater order. prefix_behind taken.now.past (report.front greater) (report.front key) (report.fronts.descend key greater order);
+        from_old = λ key. prefix_of_prefix (own_of me.0).seen (taken.now.past ++ seen_by held.session) (taken.now.past ++ report.front key) own.saw (prefix_behind taken.now.past (seen_by held.session) (report.front key) (report.fronts.from_old key));
+        to_new = λ key. subst (IsPrefix (taken.now.past ++ report.front key)) (sym seen_is) (prefix_behind taken.now.past (report.front key) (seen_by session) (report.fronts.to_new key));
+      };
+      exact = λ key from up_to. report.exact key from up_to ∙ left_by_all first same_first (report.front key) key (omega (arith, fits, up_to));
+      descending = report.descending;
       between = report.between;
     }
 

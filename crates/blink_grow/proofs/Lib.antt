@@ -13,3 +13,4 @@ pub mod Tries
 pub mod SeatsCompare
 pub mod Closes
 pub mod Tells
+pub mod EndsOfReports

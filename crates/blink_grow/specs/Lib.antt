@@ -10,6 +10,8 @@ pub use Rattle.blink_grow.specs.Opening.{AreFirstSessions, IsFirstAt}
 pub use Rattle.blink_grow.specs.Closing.{IsClosedWith, IsListOf, IsUnclosed}
 -- why a map wasn't renewed
 pub use Rattle.blink_grow.specs.Renewing.{IsRefusal}
+-- the first and the last entry of a range
+pub use Rattle.blink_map.specs.{IsFirstFrom, IsLastTo}
 -- ---- files that no crate above names
 pub mod Rule
 pub mod Steps
@@ -17,6 +19,7 @@ pub mod Laid
 pub mod Own
 pub mod Sessions
 pub mod Opening
+pub mod Ends
 pub mod Renewing
 pub mod Closing
 pub mod Telling

@@ -14,8 +14,8 @@ use std::sync::Wait;
 // A map, and its only session.
 #[derive(Drop)]
 pub(crate) struct Single {
-    map: GrowingMap,
-    session: Session,
+    pub(crate) map: GrowingMap,
+    pub(crate) session: Session,
     ghost its_own: { IsSessionOf map session },
 }
 

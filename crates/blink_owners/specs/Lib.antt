@@ -25,13 +25,13 @@ pub use Rattle.blink_owners.specs.Maps.{HasBadSessions, IsNewMap, IsTooLargeMap,
 pub use Rattle.blink_owners.specs.Sessions.{Answers, EndsFrom, Finds as SessionFinds, IsAdvanceRefusal as IsSessionAdvanceRefusal, IsChangeRefusal, IsOwnSession, IsPutRefusal, IsShortage, IsTakeRefusal as IsSessionTakeRefusal, IsTellRefusal as IsSessionTellRefusal, Puts, Scans as SessionScans, ScansBack as SessionScansBack, Takes as SessionTakes, TellsOn as SessionTellsOn, TellsStock}
 -- readers of an index, each behind a handle
 pub use Rattle.blink_owners.specs.Readers.{index_at, index_in}
-
 -- ---- for proofs above
 pub use Rattle.blink_owners.specs.Tables.{table_in}
 pub use Rattle.blink_owners.specs.Maps.{CanClose, IsClosedMap, IsOwnMap, IsOwnerOfSame, fan_in, map_in}
 -- ---- files that crates above name
 pub mod Passes
 pub mod Sessions
+-- the codes of refusals
 pub mod Codes
 pub mod TableCodes
 pub mod MapCodes
@@ -46,4 +46,3 @@ pub mod Reports
 pub mod Tables
 pub mod Maps
 pub mod Readers
--- the codes of refusals

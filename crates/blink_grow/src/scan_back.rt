@@ -1,0 +1,38 @@
+//! Backward scans: the entries of a range of keys in descending order, while other sessions change the map.
+ghost use Rattle.std.specs.Prelude.{◌≡◌, ◌≤◌, IfSome, drop, length, take};
+ghost use Rattle.blink_live.specs.{IsReportBack, StoppedFull, start_of};
+ghost use Rattle.blink_grow.specs.Sessions.{IsSameBesideSeen, IsSessionOf, opening_of, seen_by};
+
+use crate::growing::{GrowingMap, Session};
+use blink_batch::Entry;
+use blink_live::Scanned;
+use std::sync::Wait;
+
+impl GrowingMap {
+    /// Reports the entries whose keys are from `lo` to `hi`, both included, in descending order, as `Map::scan_back` of `blink_map` does.
+    /// What it says of a key is what the changes up to some time in the call leave of it, whatever maps they were made in. The last `n`
+    /// entries up to a key are those of `scan_back(rt, session, 0, key, &mut into[..n])`. The call takes no memory, and waits while the
+    /// map is renewed.
+    pub fn scan_back<R: Wait>(
+        &self,
+        rt: &R,
+        session: &mut Session,
+        lo: u64,
+        hi: u64,
+        into: &mut [Entry],
+    ) -> Scanned
+        requires its_own { IsSessionOf self.now session.old }
+        ensures report { IsReportBack (opening_of self.now) (seen_by session.old) (seen_by session.new)
+            (start_of lo result.next) hi (take result.filled into.new) }
+        ensures stopped { IfSome result.next (StoppedFull lo hi (length into.old) result.filled) }
+        ensures filled { result.filled ≤ length into.old }
+        ensures others { drop result.filled into.new ≡ drop result.filled into.old }
+        ensures same { IsSameBesideSeen session.old session.new }
+    {
+        let Session { seat, slot } = session;
+        let mut held = self.take(rt, seat, *slot);
+        let scanned = held.map.scan_back(&mut held.session, lo, hi, into);
+        self.give(seat, *slot, held);
+        scanned
+    }
+}
