@@ -9,7 +9,7 @@
 enum { THREADS = 8, TURNS = 50000, KEYS = 200, BATCH = 64 };
 
 struct object {
-    uint64_t key, made_by;
+    uint64_t made_by, key;
 };
 
 // What a thread has taken out of the map, with the guards' turns afterwards.
@@ -75,7 +75,7 @@ static void put_object(struct worker *self, uint64_t key) {
     struct object *object = malloc(sizeof *object);
     blink_answer answer;
     if (!object) exit(1);
-    *object = (struct object){key, (uint64_t)(self->guard - guards)};
+    *object = (struct object){(uint64_t)(self->guard - guards), key};
     expect(blink_session_put_wait(&self->session, key, (uintptr_t)object, &answer));
     if (answer.kind == BLINK_REPLACED) retire(self, answer.pointer);
 }
