@@ -1,8 +1,10 @@
 -- A leaf whose row has records: the newest record of each key, and a walk over them and the base's entries by ascending keys.
-use Rattle.std.specs.Prelude.{◌≡◌, ℕ, suc, ◌+◌, ◌<◌, ◌≤◌, ◌==◌, nat_le, if◌then◌else◌, Option, Some, List, [], ◌∷◌, ◌++◌}
-use Rattle.blink_page.specs.{PlainPage, least_above, value_at}
+use Rattle.std.specs.Prelude.{◌≡◌, ℕ, suc, ◌+◌, ◌<◌, ◌≤◌, ◌==◌, nat_le, if◌then◌else◌, Option, Some, List, [], ◌∷◌, ◌++◌, length}
+use Rattle.blink_batch.specs.declared.Entry.{Entry}
+use Rattle.blink_page.specs.{IsRising, PlainPage, least_above, value_at}
 use Rattle.blink_rows.specs.{pointer_after}
 use Rattle.blink_rows.specs.declared.log.Record.{Record}
+use Rattle.blink_live.specs.Scanning.{IsCopied, IsFilled}
 
 -- ---- records of different keys, by ascending keys
 
@@ -53,6 +55,23 @@ pub data IsNext (entries : List (ℕ × ℕ)) (records : List Record) (key : ℕ
       → IsNext entries records key kept entries_left records_left
   in_both : (r : Record) (pointer : ℕ) → entries ≡ (key, pointer) ∷ entries_left → records ≡ r ∷ records_left → r.key ≡ key → kept ≡ pointer_after r
       → IsNext entries records key kept entries_left records_left
+
+-- from this key to below `stop` the entries and records say what is known of the keys from `low` on
+pub record IsMerging (known : ℕ → Option ℕ) (low stop cursor : ℕ) (entries : List (ℕ × ℕ)) (records : List Record) : Type 0 where
+  pub rises : IsRising cursor entries stop
+  pub ascend : RecordsRise cursor records stop
+  pub says : (key : ℕ) → low ≤ key → cursor ≤ key → key < stop → known key ≡ told records key (value_at key entries)
+
+-- a scan of the keys from `from` to `hi` copies as it walks over a leaf whose keys are below `stop`:
+-- the walk has come to this key, and these entries and records are left
+pub record HasMerged (known : ℕ → Option ℕ) (from hi stop : ℕ) (left : List (ℕ × ℕ)) (rest : List Record) (old now : List Entry) (filled : ℕ) : Type 0 where
+  pub cursor : ℕ
+  pub merging : IsMerging known from stop cursor left rest
+  pub within : cursor ≤ hi + 1
+  pub entries : List Entry
+  pub is_filled : IsFilled entries old now
+  pub count : filled ≡ length entries
+  pub copied : IsCopied known from cursor entries
 
 -- ---- a walk from behind
 

@@ -6,18 +6,21 @@
 //! has been split since; then the scan descends again. The load of the leaf's page word tells the seat the state of each of the leaf's
 //! keys, and nobody stores to the row that it names while the scan reads there. So the entries of one leaf are those of one time;
 //! those of the leaf to the right are of a later one.
-ghost use Rattle.std.specs.Prelude.{◌≡◌, ◌+◌, ◌<◌, ◌≤◌, List, IfSome, length, take, drop};
+ghost use Rattle.std.specs.Prelude.{◌≡◌, ◌+◌, ◌<◌, ◌≤◌, ◌∷◌, ℕ, List, Option, IfSome, length, take, drop};
 ghost use Rattle.blink_batch.specs.declared.Entry.{Entry};
 ghost use Rattle.blink_page.specs.{PlainPage};
+ghost use Rattle.blink_page.specs.declared.limits.TheConstants.{MAX_FAN};
 ghost use Rattle.blink_rows.specs.{row_in};
+ghost use Rattle.blink_rows.specs.declared.limits.TheConstants.{ROW_WORDS};
+ghost use Rattle.blink_rows.specs.declared.log.Record.{Record};
 ghost use Rattle.blink_live.specs.Along.{GoesAlong, IsNotedLeaf};
 ghost use Rattle.blink_live.specs.Finding.{HasSearched, IsIdle};
 ghost use Rattle.blink_live.specs.Handles.{IsPassOf, IsSameBesideSeen, KnowsItsKeys, keys_of, opening_of, seen_of, share_of};
-ghost use Rattle.blink_live.specs.Merging.{AreNewest};
+ghost use Rattle.blink_live.specs.Merging.{AreNewest, HasMerged};
 ghost use Rattle.blink_live.specs.Scanning.{HasScanned, IsCopied, IsFilled, IsReport, ReportLaw, SaysOfKeys, StoppedFull, stop_of};
 ghost use Rattle.blink_live.specs.Seats.{HasSameNumber, HasStates, IsPassSeat, IsSameSeat, ReadsLeaf, ReadsPage};
 ghost use Rattle.blink_live.specs.Views.{known_of};
-ghost use Rattle.blink_live.specs.Words.{IsRowNumber};
+ghost use Rattle.blink_live.specs.Words.{IsRowNumber, row_start, word_count};
 
 use crate::live::{Live, Pass};
 use crate::merge::Walk;
@@ -330,7 +333,9 @@ impl Live {
             entries: 0,
             records: 0,
         };
-        let mut filled = 0;
+        let first = self.copy_run(seat, start, count, newest, walk, from, hi, into, 0);
+        walk.entries = first.0;
+        let mut filled = first.1;
         while let Some(met) = self.next_key(seat, start, count, newest, walk) {
             if met.key > hi {
                 return Scanned { filled, next: None };
@@ -352,12 +357,70 @@ impl Live {
                 key: met.key,
                 pointer,
             };
-            filled += 1;
+            let run = self.copy_run(seat, start, count, newest, walk, from, hi, into, filled + 1);
+            walk.entries = run.0;
+            filled = run.1;
         }
         let last = self.load_word(seat, start, HIGH_KEY);
         let next = if last < hi { Some(last + 1) } else { None };
         Scanned { filled, next }
     }
+
+    // Copies a run of the base's entries, from the walk's place on up to the next record's key: as long as the keys are up to `hi`, and
+    // there are places. Returns how many entries are passed then, and how many places are filled. A run takes no look at records.
+    fn copy_run(
+        &self,
+        seat: &mut Seat<u8, View>,
+        start: usize,
+        count: usize,
+        newest: &[Record],
+        walk: Walk,
+        from: u64,
+        hi: u64,
+        into: &mut [Entry],
+        mut filled: usize,
+    ) -> (usize, usize)
+        requires seat { IsPassSeat self.now seat.old.table_id seat.old.me }
+        requires inside { start + ROW_WORDS ≤ word_count self.now.counts }
+        requires few { (count ≤ MAX_FAN) × (walk.entries ≤ count) }
+        ensures same { IsSameSeat seat.old seat.new }
+        ensures passed { (walk.entries ≤ result.0) × (result.0 ≤ count) }
+        ensures merged { (row : ℕ) (base : PlainPage) (known : ℕ → Option ℕ) (stop : ℕ) (old : List Entry)
+            → start ≡ row_start self.now.counts row
+            → ReadsPage seat.old.me row base
+            → count ≡ length base.entries
+            → length old ≡ length into.old
+            → HasMerged known from hi stop (drop walk.entries base.entries)
+            (drop walk.records newest.now) old into.old filled
+            → HasMerged known from hi stop (drop result.0 base.entries)
+            (drop walk.records newest.now) old into.new result.1 }
+    {
+        let bound = bound_at(newest, walk.records);
+        for place in walk.entries..count {
+            let at = HEAD_WORDS + ENTRY_WORDS * place;
+            let key = self.load_word(seat, start, at);
+            if key >= bound || key > hi || filled >= into.len() {
+                return (place, filled);
+            }
+            if key < from {
+                continue;
+            }
+            let pointer = self.load_word(seat, start, at + 1);
+            into[filled] = Entry { key, pointer };
+            filled += 1;
+        }
+        (count, filled)
+    }
+}
+
+// The key of the record at this place, or the greatest key behind the last record.
+fn bound_at(records: &[Record], place: usize) -> u64
+    ensures { (r : Record) (rest : List Record) → drop place records.now ≡ r ∷ rest → result ≡ r.key }
+{
+    if place < records.len() {
+        return records[place].key;
+    }
+    u64::MAX
 }
 
 /// States what a report tells of each key, whatever the fronts are.

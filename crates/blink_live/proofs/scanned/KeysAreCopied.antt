@@ -9,11 +9,11 @@ use Rattle.blink_batch.specs.{IsAscending, entry, pointer_of}
 use Rattle.blink_page.specs.{IsLawfulPage, IsRising, PlainPage, least_above}
 use Rattle.blink_page.specs.declared.limits.TheConstants.{MAX_FAN}
 use Rattle.blink_rows.specs.declared.log.Record.{Record}
-use Rattle.blink_live.specs.Merging.{AreNewest, RecordsRise}
+use Rattle.blink_live.specs.Merging.{AreNewest, HasMerged, IsMerging, RecordsRise}
 use Rattle.blink_live.specs.Scanning.{IsBetween, IsCopied, IsFilled}
 use Rattle.blink_live.specs.Seats.{HasStates}
 use Rattle.blink_live.proofs.scanned.PlacesAreFilled.{filled_more, filled_none}
-use Rattle.blink_live.proofs.scanned.WalksOverLeaves.{GoesOn, IsMerging}
+use Rattle.blink_live.proofs.scanned.WalksOverLeaves.{GoesOn}
 
 -- ---- the copy of some keys, as far as `stop`
 
@@ -76,16 +76,6 @@ begins_below from stop [] all some = absurd (omega (arith, some))
 begins_below from stop (e ∷ rest) all some = let low = all.0.0 in let less = all.0.1 in omega (arith, low, less)
 
 -- ---- the walk over a leaf whose keys are below `stop`
-
--- the walk has come to this key, and these entries and records are left
-pub record HasMerged (known : ℕ → Option ℕ) (from hi stop : ℕ) (left : List (ℕ × ℕ)) (rest : List Record) (old now : List Entry) (filled : ℕ) : Type 0 where
-  pub cursor : ℕ
-  pub merging : IsMerging known from stop cursor left rest
-  pub within : cursor ≤ hi + 1
-  pub entries : List Entry
-  pub is_filled : IsFilled entries old now
-  pub count : filled ≡ length entries
-  pub copied : IsCopied known from cursor entries
 
 rises_from_0 : (from to : ℕ) (es : List (ℕ × ℕ)) → IsRising from es to → IsRising 0 es to
 rises_from_0 from to [] rises = omega arith

@@ -1,5 +1,5 @@
 -- The next key of a walk: by places in the lists of entries and of records.
-use Rattle.std.proofs.Common.{◌≡◌, ⊎_elim, ℕ, suc, ◌+◌, ◌<◌, ◌≤◌, ◌==◌, true, false, Option, Some, List, ◌∷◌, length, get_or, drop, refl, sym, ap, ◌∙◌, subst, arith}
+use Rattle.std.proofs.Common.{◌≡◌, ⊎_elim, ℕ, suc, ◌+◌, ◌<◌, ◌≤◌, ◌==◌, true, false, Option, Some, List, [], ◌∷◌, length, get_or, drop, refl, sym, ap, ◌∙◌, subst, arith}
 use Rattle.std.specs.Prelude.{IsTrue, IsFalse}
 use Rattle.std.proofs.Math.Seq.{drop-cons}
 use Rattle.std.proofs.lemmas.Bool.{cases_lt}
@@ -53,3 +53,22 @@ module _ (es : List (ℕ × ℕ)) (rs : List Record) (place i : ℕ) where
           record_alone r (first_record there ∙ ap (λ (n : ℕ). r ∷ drop n rs) (sym more)) (sym its_key) its_pointer (ap (λ (n : ℕ). drop n es) (without is))
           (subst (IsBelowEntries key) (sym (first_entry inside)) less)
     ]) refl
+
+-- ---- a run of entries before the next record
+
+below_first : (key : ℕ) (rs : List Record) → ((r : Record) (rest : List Record) → rs ≡ r ∷ rest → key < r.key) → IsBelowRecords key rs
+below_first key [] before = tt
+below_first key (r ∷ rest) before = before r rest refl
+
+pub meets_in_run : (es : List (ℕ × ℕ)) (rs : List Record) (place key : ℕ) → place < length es → key ≡ (get_or es place (0, 0)).0 → ((r : Record) (rest : List Record) → rs ≡ r ∷ rest → key < r.key) → IsNext (drop place es) rs key (Some (get_or es place (0, 0)).1) (drop (place + 1) es) rs
+meets_in_run es rs place key inside its_key before =
+    let pair : get_or es place (0, 0) ≡ (key, (get_or es place (0, 0)).1) = λ j. (sym its_key j, (get_or es place (0, 0)).1) in
+    entry_alone (get_or es place (0, 0)).1 (first_entry es rs place 0 inside ∙ (λ j. let first : ℕ × ℕ = pair j in first ∷ drop (place + 1) es)) refl refl (below_first key rs before)
+
+-- the first of the records that are left
+pub first_left : (rs : List Record) (place : ℕ) (r : Record) (rest : List Record) → place < length rs → drop place rs ≡ r ∷ rest → get_or rs place no_record ≡ r
+first_left rs place r rest inside is =
+    let its : get_or rs place no_record ∷ drop (suc place) rs ≡ r ∷ rest = sym (drop-cons rs place no_record inside) ∙ is in cc
+
+pub none_is_left : (rs : List Record) (place : ℕ) (r : Record) (rest : List Record) → length rs ≤ place → drop place rs ≡ r ∷ rest → ⊥
+none_is_left rs place r rest past is = let none : [] ≡ r ∷ rest = sym (drop_all place rs past) ∙ is in cc

@@ -6,14 +6,8 @@ use Rattle.blink_page.proofs.LookUps.{value_at-below}
 use Rattle.blink_page.proofs.Offered.{from_at_most_to}
 use Rattle.blink_rows.specs.{pointer_after}
 use Rattle.blink_rows.specs.declared.log.Record.{Record}
-use Rattle.blink_live.specs.Merging.{IsBelowEntries, IsBelowRecords, IsNext, RecordsRise, entry_alone, in_both, record_alone, told}
+use Rattle.blink_live.specs.Merging.{IsBelowEntries, IsBelowRecords, IsMerging, IsNext, RecordsRise, entry_alone, in_both, record_alone, told}
 use Rattle.blink_live.proofs.scanned.NewestRecords.{told-below}
-
--- from this key to below `stop` the entries and records say what is known of the keys from `low` on
-pub record IsMerging (known : ℕ → Option ℕ) (low stop cursor : ℕ) (entries : List (ℕ × ℕ)) (records : List Record) : Type 0 where
-  pub rises : IsRising cursor entries stop
-  pub ascend : RecordsRise cursor records stop
-  pub says : (key : ℕ) → low ≤ key → cursor ≤ key → key < stop → known key ≡ told records key (value_at key entries)
 
 -- the walk meets a key, and goes on behind it
 pub record GoesOn (known : ℕ → Option ℕ) (low stop cursor key : ℕ) (kept : Option ℕ) (entries : List (ℕ × ℕ)) (records : List Record) : Type 0 where

@@ -1,14 +1,15 @@
-use Rattle.std.proofs.Common.{◌≡◌, ℕ, ◌+◌, ◌<◌, Option, Some, List, [], length, drop, sym, ap, ◌∙◌, subst, arith}
+use Rattle.std.proofs.Common.{◌≡◌, ℕ, ◌+◌, ◌<◌, Option, Some, List, [], length, drop, sym, ap, ◌∙◌, refl, subst, arith}
 use Rattle.std.specs.Prelude.{slice_index}
-use Rattle.std.proofs.lemmas.List.{drop_all}
+use Rattle.std.proofs.lemmas.List.{drop_all, length-set}
 use Rattle.blink_batch.specs.declared.Entry.{Entry}
+use Rattle.blink_batch.specs.{entry}
 use Rattle.blink_page.specs.{PlainPage}
 use Rattle.blink_rows.specs.{page_words}
 use Rattle.blink_rows.specs.declared.log.Record.{Record}
-use Rattle.blink_live.specs.Merging.{IsNext}
+use Rattle.blink_live.specs.Merging.{HasMerged, IsNext}
 use Rattle.blink_live.specs.Seats.{ReadsPage}
 use Rattle.blink_live.specs.Views.{SeatState, known_of}
-use Rattle.blink_live.proofs.scanned.KeysAreCopied.{HasMerged, IsCopiedTo, key_is_behind, merged_all, merged_none, merged_one, merged_to_end, merged_to_hi, merged_to_key, passed_below, passed_none}
+use Rattle.blink_live.proofs.scanned.KeysAreCopied.{IsCopiedTo, key_is_behind, merged_all, merged_none, merged_one, merged_to_end, merged_to_hi, merged_to_key, passed_below, passed_none}
 use Rattle.blink_live.proofs.scanned.WalksOverLeaves.{GoesOn, goes_on}
 use Rattle.blink_live.proofs.live.Live.copy_merged.Goals as goal
 
@@ -25,13 +26,26 @@ still_reads {me} {now} {row} {base} same reads = subst (λ (x : SeatState). Read
 high_read : {me now : SeatState} {row last : ℕ} (base : PlainPage) → now ≡ me → ReadsPage me row base → ((content : List ℕ) → now.0.reads ≡ Some (row, content) → 3 < length content → last ≡ slice_index content 3) → last ≡ base.high
 high_read base same reads loads = loads (page_words base) (still_reads same reads).reads (omega arith)
 
+-- the base has no more entries than a row has room for
+pub copy_run-first-requires-clause-few : goal.copy_run-first-requires-clause-few
+copy_run-first-requires-clause-few c =
+    let reads = c.requires.leaf.2 in
+    let count = c.load_word-count.ensures.word c.args.row (page_words c.requires.leaf.0) c.row_place-start.ensures.start reads.reads (omega arith) in
+    let few = reads.lawful.at_most_fan in
+    (omega (arith, count, few), omega arith)
+
 pub loop-met-init : goal.loop-met-init
-loop-met-init c = record {
-  same = c.load_word-count.ensures.same;
-  count = λ base reads. c.load_word-count.ensures.word c.args.row (page_words base) c.row_place-start.ensures.start reads.reads (omega arith);
-  within = (omega arith, omega arith);
-  merged = λ base leaf reads newest has. merged_none (known_of c.args.seat.now.me.0) c.args.from c.args.hi base leaf c.args.newest.now c.args.into.now reads.lawful newest has;
-}
+loop-met-init c =
+    let load = c.load_word-count.ensures in
+    let run = c.copy_run-first.ensures in
+    let count : (base : PlainPage) → ReadsPage c.args.seat.now.me c.args.row base → c.load_word-count.result ≡ length base.entries = λ base reads. load.word c.args.row (page_words base) c.row_place-start.ensures.start reads.reads (omega arith) in record {
+      same = (run.same.0 ∙ load.same.0, run.same.1 ∙ load.same.1, run.same.2 ∙ load.same.2);
+      count = count;
+      within = (run.passed.1, omega arith);
+      merged = λ base leaf reads newest has.
+          run.merged c.args.row base (known_of c.args.seat.now.me.0) (base.high + 1) c.args.into.now c.row_place-start.ensures.start (still_reads load.same.2 reads) (count base reads) refl
+          (merged_none (known_of c.args.seat.now.me.0) c.args.from c.args.hi base leaf c.args.newest.now c.args.into.now reads.lawful newest has);
+    }
 
 pub loop-met-preserved-then-met-from : goal.loop-met-preserved-then-met-from
 loop-met-preserved-then-met-from c =
@@ -74,10 +88,11 @@ loop-met-preserved-in_default-pointer c =
 pub loop-met-preserved : goal.loop-met-preserved
 loop-met-preserved c =
     let same = c.loop-met.invariant.same in
-    let key = c.next_key.ensures.same in record {
-      same = (key.0 ∙ same.0, key.1 ∙ same.1, key.2 ∙ same.2);
+    let key = c.next_key.ensures.same in
+    let run = c.copy_run-run.ensures in record {
+      same = (run.same.0 ∙ key.0 ∙ same.0, run.same.1 ∙ key.1 ∙ same.1, run.same.2 ∙ key.2 ∙ same.2);
       count = c.loop-met.invariant.count;
-      within = c.in-Some.ensures.inside;
+      within = (run.passed.1, c.in-Some.ensures.inside.1);
       merged = λ base leaf reads newest has.
           let known = known_of c.args.seat.now.me.0 in
           let at = c.loop-met.invariant in
@@ -88,7 +103,8 @@ loop-met-preserved c =
           let met = c.in-Some.met in
           let next = met_behind was (c.in-Some.ensures.met c.args.row base c.row_place-start.ensures.start (still_reads at.same.2 reads) (at.count base reads)) in
           let fits = was.is_filled.fits in let count = was.count in let long = c.loop-met.auto.into in let room = c.if-filled-into.false in
-          merged_one known c.args.from c.args.hi (base.high + 1) left rest c.args.into.now c.loop-met.into c.loop-met.filled was met.key met.pointer (drop met.walk.entries base.entries) (drop met.walk.records c.args.newest.now) next c.in-Some-pointer.pointer c.in-Some-pointer.is c.if-met-from.false c.if-met-hi.false (omega (arith, fits, count, long, room));
+          run.merged c.args.row base known (base.high + 1) c.args.into.now c.row_place-start.ensures.start (still_reads (key.2 ∙ same.2) reads) (at.count base reads) (let first = c.copy_run-first.auto.into in let set = length-set c.loop-met.into c.loop-met.filled (entry met.key c.in-Some-pointer.pointer) in omega (arith, long, first, set))
+          (merged_one known c.args.from c.args.hi (base.high + 1) left rest c.args.into.now c.loop-met.into c.loop-met.filled was met.key met.pointer (drop met.walk.entries base.entries) (drop met.walk.records c.args.newest.now) next c.in-Some-pointer.pointer c.in-Some-pointer.is c.if-met-from.false c.if-met-hi.false (omega (arith, fits, count, long, room)));
     }
 
 pub returns-then-met-hi-clause-copied : goal.returns-then-met-hi-clause-copied

@@ -1,9 +1,8 @@
 use Rattle.std.proofs.Common.{◌≡◌, ◌+◌, ◌-◌, ◌≤◌, length, drop}
 use Rattle.blink_page.specs.{PlainPage}
-use Rattle.blink_live.specs.Merging.{AreNewest}
+use Rattle.blink_live.specs.Merging.{AreNewest, HasMerged}
 use Rattle.blink_live.specs.Seats.{HasStates, IsSameSeat, ReadsPage}
 use Rattle.blink_live.specs.Views.{known_of}
-use Rattle.blink_live.proofs.scanned.KeysAreCopied.{HasMerged}
 use Rattle.blink_live.proofs.live.Live.copy_merged.Given as goal
 
 abbrev pub invariant-loop-met : goal.invariant-loop-met
