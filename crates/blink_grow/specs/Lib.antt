@@ -19,7 +19,6 @@ pub mod Laid
 pub mod Own
 pub mod Sessions
 pub mod Opening
-pub mod Ends
 pub mod Renewing
 pub mod Closing
 pub mod Telling

@@ -1,8 +1,7 @@
 //! The first and the last entry of a growing map, and the next above and below a key, while other sessions change it.
-ghost use Rattle.std.specs.Prelude.{◌≡◌, ◌+◌, ◌-◌, ◌<◌, ◌≤◌, None, length, take};
+ghost use Rattle.std.specs.Prelude.{◌≡◌, ◌+◌, ◌-◌, ◌<◌, ◌≤◌, None, length, option_to_list, take};
 ghost use Rattle.blink_page.specs.declared.limits.TheConstants.{GREATEST_KEY};
 ghost use Rattle.blink_map.specs.{IsFirstFrom, IsLastTo};
-ghost use Rattle.blink_grow.specs.Ends.{listed};
 ghost use Rattle.blink_grow.specs.Sessions.{IsSameBesideSeen, IsSessionOf, opening_of, seen_by};
 
 use crate::growing::{GrowingMap, Session};
@@ -96,7 +95,7 @@ impl GrowingMap {
 fn found_in(filled: usize, places: &[Entry]) -> Option<Entry>
     requires few { filled ≤ 1 }
     requires some_place { 1 ≤ length places.now }
-    ensures { listed result ≡ take filled places.now }
+    ensures { option_to_list result ≡ take filled places.now }
 {
     if filled == 0 {
         return None;

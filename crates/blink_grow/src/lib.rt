@@ -21,6 +21,8 @@ mod scan_back;
 mod slots;
 mod snapshot;
 mod tell;
+#[cfg(test)]
+mod tests;
 mod waiting;
 
 pub use blink_live::Scanned;

@@ -1,8 +1,8 @@
 use Rattle.std.proofs.Common.{List, length, ap, ◌∙◌, subst, sym, arith}
 use Rattle.std.proofs.lemmas.List.{length-take}
+use Rattle.std.specs.Prelude.{option_to_list}
 use Rattle.blink_batch.specs.declared.Entry.{Entry}
 use Rattle.blink_live.specs.{IsReportBack, start_of}
-use Rattle.blink_grow.specs.Ends.{listed}
 use Rattle.blink_grow.specs.Sessions.{opening_of, seen_by}
 use Rattle.blink_grow.proofs.EndsOfReports.{last_found}
 use Rattle.blink_grow.proofs.growing.GrowingMap.at_most.Goals as goal
@@ -10,7 +10,7 @@ use Rattle.blink_grow.proofs.growing.GrowingMap.at_most.Goals as goal
 pub returns-clause-found : goal.returns-clause-found
 returns-clause-found g c =
     let scan = c.scan_back-scanned.ensures in
-    let found : List Entry = listed c.found_in.result in
+    let found : List Entry = option_to_list c.found_in.result in
     let taken = ap length c.found_in.ensures ∙ length-take c.scan_back-scanned.result.filled c.scan_back-scanned.new.into in
     let filled = scan.filled in
     let long = c.scan_back-scanned.auto.into in
