@@ -1,8 +1,12 @@
-//! Memory that is refused when a map opens, grows and closes. `rt try --test --fail-alloc N` refuses the Nth request; without it none is.
+//! Memory that is refused when a map opens, grows, is renewed and closes. `rt try --test --fail-alloc N` refuses the Nth request; without
+//! it none is.
 use crate::same::{given, same};
 use crate::shared::Single;
 use blink_batch::{Answer, Op};
 use blink_grow::GrowError;
+use std::alloc::Global;
+use std::process::Abort;
+use std::sync::Wait;
 
 const KEYS: u64 = 6_000;
 
@@ -25,4 +29,37 @@ fn refused_memory_loses_no_key(rt: HostRuntime) {
         same(&rt, &index.find(key), &Some(key));
     }
     same(&rt, &index.find(KEYS), &None);
+}
+
+// More keys than a page has, so that the index has several, and few enough for the room of the first map.
+const FEW_KEYS: u64 = 100;
+
+fn find_all<R: Wait + Abort>(rt: &R, alloc: Global, map: &mut Single) {
+    for key in 0..FEW_KEYS {
+        map.call(rt, alloc, Op::Find(key), Answer::Found(key ^ 5));
+    }
+    map.call(rt, alloc, Op::Find(FEW_KEYS), Answer::Absent);
+}
+
+// A refused renewal leaves the map as it was, and is made again.
+#[test]
+fn a_renewal_that_is_refused_memory_leaves_the_map_as_it_was(rt: HostRuntime) {
+    let alloc = rt.alloc();
+    let Ok(mut map) = Single::among(&rt, alloc, 3) else {
+        return;
+    };
+    for key in 0..FEW_KEYS {
+        map.call(&rt, alloc, Op::Insert(key, key ^ 5), Answer::Inserted);
+    }
+    if let Err(refusal) = map.renew(&rt, alloc) {
+        same(&rt, &refusal, &GrowError::OutOfMemory);
+        find_all(&rt, alloc, &mut map);
+        same(&rt, &map.renew(&rt, alloc), &Ok(()));
+    }
+    find_all(&rt, alloc, &mut map);
+    map.call(&rt, alloc, Op::Delete(7), Answer::Removed(7 ^ 5));
+    let index = map.close(&rt, alloc);
+    same(&rt, &index.find(6), &Some(6 ^ 5));
+    same(&rt, &index.find(7), &None);
+    same(&rt, &index.find(FEW_KEYS), &None);
 }

@@ -1,9 +1,9 @@
-//! A growing map with one session, whose calls have no condition: what is so of them is in the type.
+//! A growing map and one session, whose calls have no condition: what is so of them is in the type.
 ghost use Rattle.std.specs.Prelude.{All, IfOk};
 ghost use Rattle.blink_batch.specs.{FitsWords};
 ghost use Rattle.blink_grow.specs.{IsSessionOf, IsUpdate};
 
-use crate::same::{given, same_for};
+use crate::same::same_for;
 use blink_batch::{Answer, Op};
 use blink_grow::{GrowError, GrowingMap, Session};
 use blink_index::Index;
@@ -11,7 +11,7 @@ use std::alloc::Global;
 use std::process::Abort;
 use std::sync::Wait;
 
-// A map, and its only session.
+// A map, and one of its sessions.
 #[derive(Drop)]
 pub(crate) struct Single {
     pub(crate) map: GrowingMap,
@@ -20,9 +20,18 @@ pub(crate) struct Single {
 }
 
 impl Single {
-    // An empty map; a refusal, if memory was refused.
+    // An empty map with this session alone; a refusal, if memory was refused.
     pub(crate) fn new(rt: &impl Abort, alloc: Global) -> Result<Single, GrowError> {
-        let (map, mut sessions) = match GrowingMap::new(alloc, 1) {
+        Single::among(rt, alloc, 1)
+    }
+
+    // An empty map with so many sessions, of which the others do nothing.
+    pub(crate) fn among(
+        rt: &impl Abort,
+        alloc: Global,
+        sessions: u32,
+    ) -> Result<Single, GrowError> {
+        let (map, mut sessions) = match GrowingMap::new(alloc, sessions) {
             Ok(opened) => opened,
             Err(refusal) => return Err(refusal),
         };
@@ -58,15 +67,16 @@ impl Single {
         self.map.renew(rt, alloc)
     }
 
-    // Closes the map with its session.
+    // Closes the map with the session; without it, if memory for the list is refused.
     pub(crate) fn close(self, rt: &impl Abort, alloc: Global) -> Index {
         let Single { map, session } = self;
-        let mut sessions = Vec::new(alloc);
-        given(
-            rt,
-            sessions.push(session).map_err(|_| GrowError::OutOfMemory),
-        );
-        close(rt, alloc, map, sessions)
+        match Vec::with_capacity(alloc, 1) {
+            Ok(mut sessions) => {
+                sessions.push_reserved(session);
+                close(rt, alloc, map, sessions)
+            }
+            Err(_) => close(rt, alloc, map, Vec::new(alloc)),
+        }
     }
 }
 
