@@ -1,4 +1,5 @@
--- What the proofs of the six handles share: a handle is a pointer beside the heap, and owns what a box at its pointer owns.
+-- What differs between the kinds of handle, and what each has to show. A handle is a pointer beside the heap, and owns what a box at its
+-- pointer owns, so the steps for a box serve here. A lemma over a kind is one function's proof for each.
 use mathlib.Core.List.{List, [], ◌∷◌}
 use mathlib.Core.Path.{◌≡◌, refl}
 use mir.Syntax.{Sym, Ty, impl, named, tcons, tnil, dnil, ty_ptr, ty_struct}
@@ -63,21 +64,22 @@ at_type R τ = record {
 abbrev pub handle_ty : Sym → Ty
 handle_ty name = ty_struct name (tcons ty_ptr (tcons (layout Heap.the_row) tnil))
 
--- a kind of handle. Each fact holds by `refl` where the rows are known
+-- a kind of handle. Each fact about rows holds by `refl` at a kind, where they compute
 pub record Kind : Type 2 where
   -- what it owns, and the MIR type of that
   pub Owner : RattleType
   pub τ : Ty
   pub laws : Laws (passed_as Owner τ)
   pub static : [] ⊑ Owner.lives
-  -- the handle, and the struct's name
+  -- the handle's row, and the struct's name
   pub Handle : RattleType
   pub name : Sym
+  -- the box that a handle stands for, and a handle with another value
   pub as_box : Handle.Denot → Box Owner.Denot Global
   pub with_value : Handle.Denot → Owner.Denot → Handle.Denot
   pub keeps : (h : Handle.Denot) (w : Owner.Denot) → as_box (with_value h w) ≡ record { ptr = (as_box h).ptr; alloc = (as_box h).alloc; value = w }
   pub owns_box : (h : Handle.Denot) (us : List Val) → Handle.own_val h us ≡ (B (box_at Owner τ laws)).own_val (as_box h) us
-  -- a borrow and a box of it at its type are those at the type as it is passed
+  -- a borrow and a box of the type as it is passed are those of the type itself
   pub lent_is : (κ : Lft) (r : MutBor Owner.Denot) (us : List Val) → (MutRef (named 0) κ (R (box_at Owner τ laws))).own_val r us ≡ (MutRef (named 0) κ (at_type Owner τ)).own_val r us
   pub box_is : (d : Box Owner.Denot Global) (us : List Val) → (B (box_at Owner τ laws)).own_val d us ≡ (boxed.the_row Owner Heap.the_row ghosts).own_val d us
 
@@ -88,7 +90,7 @@ box_of K = box_at K.Owner K.τ K.laws
 abbrev pub handle_row : Kind → RattleType
 handle_row K = let H = at_type K.Handle (handle_ty K.name) in record H { exit = λ k. unseen }
 
--- the slot of a kind of handle
+-- the slot of a kind: its row, the struct's name, and the slot that is full with a box
 pub record SlotOf (K : Kind) : Type 2 where
   pub Slot : RattleType
   pub name : Sym
@@ -99,7 +101,7 @@ pub record SlotOf (K : Kind) : Type 2 where
   pub parts_own : (p : Parts K.Owner.Denot Global) (us : List Val)
       → (parts.the_row K.Owner Heap.the_row ghosts).own_val p us ≡ (B (box_of K)).own_val (record { ptr = p.ptr; alloc = p.alloc; value = p.value }) us
 
--- a slot that is made empty, and from which a handle is taken
+-- what a slot shows from which a call takes the handle: the slot that is empty, the box in one that is full, and the handle of a box
 pub record TakesFrom (K : Kind) (S : SlotOf K) : Type 2 where
   pub empty : Global → S.Slot.Denot
   pub is_empty : (a : Global) → S.value (empty a) ≡ None

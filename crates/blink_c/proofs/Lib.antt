@@ -1,6 +1,7 @@
 pub mod HandleKind
 pub mod HandleGet
 pub mod HandleIntoBox
+pub mod HandleSend
 pub mod SlotOfParts
 pub mod SlotEmpty
 pub mod SlotIntoHandle
