@@ -8,6 +8,7 @@ ghost use Rattle.blink_live.specs.Allowed.{changes_left, deletes_left, inserts_l
 ghost use Rattle.blink_live.specs.Handles.{IsChangedBy, IsPassOf, KnowsItsKeys, keys_of, share_of};
 ghost use Rattle.blink_live.specs.Pendings.{HasBegun, IsPendingOf, IsWaiting, op_of, pass_of};
 
+use crate::descent::Changed;
 use crate::error::PassError;
 use crate::live::{Live, Pass, Pending, UnderWay};
 use crate::room::next_of;
@@ -127,15 +128,14 @@ impl Live {
         ensures waits { IfErr result (λ pending. IsWaiting pending.now.machine) }
     {
         let Pending { mut now, begun } = pending;
-        let mut machine = now.machine.resume();
-        match self.take_steps(&mut now.seat, &mut machine, &mut now.room, tries) {
-            Some(answer) => {
+        match self.resume(&mut now.seat, &mut now.room, &now.machine, tries) {
+            Changed::Ended(answer) => {
                 let UnderWay {
                     seat,
                     keys,
                     rows,
                     pages,
-                    machine: _machine,
+                    machine: _rested,
                     room: _,
                 } = now;
                 let pass = Pass {
@@ -146,8 +146,8 @@ impl Live {
                 };
                 Ok((pass, answer))
             }
-            None => {
-                now.machine = machine.rest();
+            Changed::Rests(resting) => {
+                now.machine = resting;
                 Err(Pending { now, begun })
             }
         }

@@ -32,8 +32,8 @@ use crate::view::View;
 use arrayvec::ArrayVec;
 use atomic_table::Seat;
 use blink_batch::{Answer, Op};
-use blink_machine::Machine;
-use blink_page::{Page, Way};
+use blink_machine::{Machine, Resting};
+use blink_page::{LEVELS, Page, Way};
 use blink_rows::layout::{COUNT, ENTRY_WORDS};
 use blink_rows::{HEAD_WORDS, Kind, Record, page_row, records_in, row_in};
 use std::hint;
@@ -59,7 +59,64 @@ impl Live {
         requires may { MayChange seat.old.me.0 (key_of op) }
         ensures came { HasCome self.now op seat.old seat.new room.new result }
     {
-        let mut descent = self.set_off(seat, room, op);
+        let descent = self.set_off(seat, room, op);
+        self.change_from(seat, room, op, descent, tries)
+    }
+
+    /// Goes on with an operation that rests, until it has ended, or has to wait again. It waits for nobody, and takes as many steps in
+    /// vain as `tries` says, at least one, before it gives up and rests. Where it rests it holds no latch.
+    pub fn resume(
+        &self,
+        seat: &mut Seat<u8, View>,
+        room: &mut Room,
+        resting: &Resting,
+        tries: u32,
+    ) -> Changed
+        requires under_way { (op : Op) × (first : Seat ℕ View)
+            × IsUnderWay self.now op first seat.old resting.now room.old }
+        requires waits { IsWaiting resting.now }
+        ensures { (op : Op) (first : Seat ℕ View)
+            → IsUnderWay self.now op first seat.old resting.now room.old
+            → HasCome self.now op first seat.new room.new result }
+    {
+        match self.descent_of(resting) {
+            Some(descent) => self.change_from(seat, room, resting.op(), descent, tries),
+            None => self.step_on(seat, room, resting, tries),
+        }
+    }
+
+    // The way of an operation that wants its leaf's latch and has decided nothing yet. Where it posts, or remembers more pages than a
+    // descent has, there is none.
+    fn descent_of(&self, resting: &Resting) -> Option<Descent>
+        ensures { IfSome result
+            (λ descent. resting.now ≡ wanting self.now.fan resting.now.op descent) }
+    {
+        let leaf = resting.leaf(self.fan)?;
+        let pages = resting.remembered();
+        if pages.len() + 1 >= LEVELS {
+            return None;
+        }
+        let mut above = ArrayVec::new();
+        let _fits = above.try_extend_from_slice(pages);
+        Some(Descent { leaf, above })
+    }
+
+    // Changes the leaf of an operation that wants its latch, and goes on to its end, or until it has to wait.
+    fn change_from(
+        &self,
+        seat: &mut Seat<u8, View>,
+        room: &mut Room,
+        op: Op,
+        descent: Descent,
+        tries: u32,
+    ) -> Changed
+        requires wants { (first : Seat ℕ View)
+            × IsUnderWay self.now op first seat.old (wanting self.now.fan op descent) room.old }
+        ensures { (first : Seat ℕ View)
+            → IsUnderWay self.now op first seat.old (wanting self.now.fan op descent) room.old
+            → HasCome self.now op first seat.new room.new result }
+    {
+        let mut descent = descent;
         let mut left = tries;
         // The range ends for the proof alone, which knows no bound of an operation's steps.
         for _ in 0..u64::MAX {
@@ -79,6 +136,30 @@ impl Live {
             }
         }
         self.rest_at(op, &descent)
+    }
+
+    // Goes on with the machine of an operation that rests.
+    #[cold]
+    #[inline(never)]
+    fn step_on(
+        &self,
+        seat: &mut Seat<u8, View>,
+        room: &mut Room,
+        resting: &Resting,
+        tries: u32,
+    ) -> Changed
+        requires under_way { (op : Op) × (first : Seat ℕ View)
+            × IsUnderWay self.now op first seat.old resting.now room.old }
+        requires waits { IsWaiting resting.now }
+        ensures { (op : Op) (first : Seat ℕ View)
+            → IsUnderWay self.now op first seat.old resting.now room.old
+            → HasCome self.now op first seat.new room.new result }
+    {
+        let mut machine = resting.resume();
+        match self.take_steps(seat, &mut machine, room, tries) {
+            Some(answer) => Changed::Ended(answer),
+            None => Changed::Rests(machine.rest()),
+        }
     }
 
     // Takes a new operation to the leaf of its key.

@@ -91,12 +91,14 @@ impl Live {
             → IsUnderWay self.now op first seat.old resting.now room.old
             → HasCome self.now op first seat.new room.new (Changed.Ended result) }
     {
-        let mut machine = resting.resume();
+        let mut rested = self.resume(seat, room, resting, 1);
         for _ in rt.forever() {
-            if let Some(answer) = self.take_steps(seat, &mut machine, room, 1) {
-                return answer;
-            }
+            let resting = match rested {
+                Changed::Ended(answer) => return answer,
+                Changed::Rests(resting) => resting,
+            };
             thread::yield_now();
+            rested = self.resume(seat, room, &resting, 1);
         }
         unreachable!()
     }
@@ -134,7 +136,7 @@ impl Live {
 
     // Takes steps of the operation until it has ended, and returns its answer; or `None` after so many steps in vain, at least
     // one. It waits for nobody, and never stops while the operation holds a latch.
-    pub fn take_steps(
+    pub(crate) fn take_steps(
         &self,
         seat: &mut Seat<u8, View>,
         machine: &mut Machine,

@@ -3,7 +3,7 @@
 -- one operation on a tree: what it remembers, the state that it is in, and the step that it needs next
 pub use Rattle.blink_machine.specs.Machine.{NeedsLatch, NeedsNew, NeedsPage, NeedsPrime, NeedsPrimeWrite, NeedsUnlatch, NeedsWrite, PlainMachine, at_state, fresh, level_read, need_at, target}
 -- an operation that rests
-pub use Rattle.blink_machine.specs.Resting.{IsResting}
+pub use Rattle.blink_machine.specs.Resting.{IsResting, wants_leaf}
 -- the table of states: what an operation makes of what it reads, what it writes, and its state afterwards
 pub use Rattle.blink_machine.specs.Table.{IsTopLeftmost, IsUpdate, PrimeOut, SeesOnItsWay, SeesPage, SeesPrime, SeesTop, WaitsForLevel, done, page_out}
 -- the kinds of a step, under names that no other enum has

@@ -1,14 +1,14 @@
 //! The operations that change a map, for a thread that waits for nobody: each begins as a `Pending`, and takes some steps at each
 //! call of `advance`.
-ghost use Rattle.std.specs.Prelude.{◌≡◌, Some, IfErr, IfOk};
+ghost use Rattle.std.specs.Prelude.{◌≡◌, IfErr, IfOk};
 ghost use Rattle.blink_batch.specs.{FitsWords};
 ghost use Rattle.blink_batch.specs.declared.Answer.{Answer};
 ghost use Rattle.blink_batch.specs.declared.Op.{Op};
 ghost use Rattle.blink_machine.specs.{IsUpdate};
-ghost use Rattle.blink_machine.specs.declared.machine.State.TheVariants.{Ended};
+ghost use Rattle.blink_live.specs.declared.descent.Changed.{Changed};
 ghost use Rattle.blink_live.specs.{IsWaiting};
 ghost use Rattle.blink_map.specs.declared.member.Member.{Member};
-ghost use Rattle.blink_map.specs.Changing.{HasBeside, HasChanged, HasSetOut, IsAtRest, IsAtWork};
+ghost use Rattle.blink_map.specs.Changing.{HasBeside, HasChanged, HasComeOut, IsAtRest, IsAtWork};
 ghost use Rattle.blink_map.specs.Pendings.{GoesOn, HasBegun, IsPendingOf, op_of, session_of};
 ghost use Rattle.blink_map.specs.Places.{IsMemberOf};
 ghost use Rattle.blink_map.specs.Sessions.{HasRoom, IsAnswered, IsSameBesideRoom, IsSessionOf, LacksRoom};
@@ -20,7 +20,7 @@ use crate::member::{Member, REST, UnderWay, next_mark};
 use crate::steps::mark_place;
 use crate::waiting::BATCH_ROWS;
 use blink_batch::{Answer, Op};
-use blink_live::Live;
+use blink_live::{Changed, Live};
 use blink_machine::Machine;
 use blink_rows::Span;
 use std::snapshot::Snapshot;
@@ -63,19 +63,18 @@ impl Map {
     {
         let Pending { mut now, begun } = pending;
         now.wake(&self.live);
-        let mut machine = now.machine.resume();
         match self
             .live
-            .take_steps(&mut now.seat, &mut machine, &mut now.room, tries)
+            .resume(&mut now.seat, &mut now.room, &now.machine, tries)
         {
-            Some(answer) => {
-                let mut member = now.end(&self.live, &machine);
+            Changed::Ended(answer) => {
+                let mut member = now.end(&self.live);
                 member.recycle(&self.live, BATCH_ROWS);
                 let session = Session { member };
                 Ok((session, answer))
             }
-            None => {
-                now.machine = machine.rest();
+            Changed::Rests(resting) => {
+                now.machine = resting;
                 now.rest(&self.live);
                 Err(Pending { now, begun })
             }
@@ -153,15 +152,13 @@ impl UnderWay {
     }
 
     // The member when its operation has ended. What the operation hasn't used of its rows and page numbers is the member's again.
-    fn end(self, live: &Live, machine: &Machine) -> Member
-        requires at_work { (op : Op) × (old : Member) × IsMemberOf live.now old
-            × HasSetOut live.now op old self.seat machine.now self.room × HasBeside old self }
-        requires ended { (answer : Answer) × (machine.now.state ≡ Ended)
-            × (machine.now.answer ≡ Some answer) }
+    fn end(self, live: &Live) -> Member
+        requires ended { (op : Op) × (old : Member) × (answer : Answer) × IsMemberOf live.now old
+            × HasComeOut live.now op old self.seat self.room (Changed.Ended answer)
+            × HasBeside old self }
         ensures { (op : Op) (old : Member) (answer : Answer) → IsMemberOf live.now old
-            → HasSetOut live.now op old self.seat machine.now self.room
+            → HasComeOut live.now op old self.seat self.room (Changed.Ended answer)
             → HasBeside old self
-            → machine.now.answer ≡ Some answer
             → HasChanged live.now op old result answer }
     {
         let UnderWay {

@@ -415,14 +415,16 @@ fn to_end<R: Wait>(
         → HasSetOut live.now op old seat.old resting.now room.old
         → HasComeOut live.now op old seat.new room.new (Changed.Ended result) }
 {
-    let mut machine = resting.resume();
+    let mut rested = live.resume(seat, room, resting, 1);
     for _ in rt.forever() {
-        if let Some(answer) = live.take_steps(seat, &mut machine, room, 1) {
-            return answer;
-        }
+        let resting = match rested {
+            Changed::Ended(answer) => return answer,
+            Changed::Rests(resting) => resting,
+        };
         mark_place(live, seat, place, REST);
         thread::yield_now();
         mark_place(live, seat, place, next_mark(mark));
+        rested = live.resume(seat, room, &resting, 1);
     }
     unreachable!()
 }

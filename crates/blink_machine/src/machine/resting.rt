@@ -1,6 +1,6 @@
 //! An operation that rests, in the room that it needs then.
-ghost use Rattle.std.specs.Prelude.{◌≡◌};
-ghost use Rattle.blink_machine.specs.Resting.{IsResting};
+ghost use Rattle.std.specs.Prelude.{◌≡◌, IfSome, reverse};
+ghost use Rattle.blink_machine.specs.Resting.{IsResting, wants_leaf};
 
 use super::{Job, Machine, State};
 use crate::remembered::Remembered;
@@ -55,6 +55,35 @@ impl Machine {
 }
 
 impl Resting {
+    /// Returns the operation.
+    pub fn op(&self) -> Op
+        ensures { result ≡ self.now.op }
+    {
+        self.op
+    }
+
+    /// Returns the leaf whose latch the operation wants, if its tree has this fan and it has decided nothing yet. What it remembers are
+    /// the pages above the leaf then. `None`, if the operation posts.
+    pub fn leaf(&self, fan: u8) -> Option<u32>
+        ensures { IfSome result
+            (λ leaf. self.now ≡ wants_leaf fan self.now.op self.now.remembered leaf) }
+    {
+        if self.fan != fan || self.answer.is_some() {
+            return None;
+        }
+        match self.job {
+            Job::Leaf => self.wants,
+            Job::Parent(_) => None,
+        }
+    }
+
+    /// Returns the pages that the operation remembers of its descent, the top level first.
+    pub fn remembered(&self) -> &[u32]
+        ensures { self.now.remembered ≡ reverse result.now }
+    {
+        self.remembered.pages()
+    }
+
     /// Returns the operation with room for a page, so that it can go on.
     pub fn resume(&self) -> Machine
         ensures { result ≡ self.now }

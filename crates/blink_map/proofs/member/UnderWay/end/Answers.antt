@@ -6,26 +6,26 @@ use Rattle.blink_map.proofs.member.UnderWay.end.Goals as goal
 
 pub come_back-requires : goal.come_back-requires
 come_back-requires c =
-    let work = c.requires.at_work in
-    let ended = c.requires.ended in
-    let out = work.3 in
-    let place = its_place out work.2 in record {
+    let work = c.requires.ended in
+    let came = work.4 in
+    let out = came.1 in
+    let place = its_place out work.3 in record {
       seat = its_seat out;
       can = gives out;
-      ended = (its_end out ended.0 ended.1 ended.2).idle;
-      place = (work.4.place ∙ place.0, subst (λ (n : ℕ). n < c.args.live.now.places) (sym work.4.place) place.1);
+      ended = (its_end out work.2 came.2 came.3).idle;
+      place = (work.5.place ∙ place.0, subst (λ (n : ℕ). n < c.args.live.now.places) (sym work.5.place) place.1);
     }
 
 pub invariant_of-result : goal.invariant_of-result
 invariant_of-result c =
-    let work = c.requires.at_work in
-    let ended = c.requires.ended in
-    let out = work.3 in
-    let again = is_idle_again out ended.0 c.come_back.new.seat (its_end out ended.0 ended.1 ended.2) c.come_back.ensures.idle in record {
-      rows_are = ap (λ (s : Span). span c.args.self.room.rows.next s.stop) work.4.rows ∙ again.rows_are;
-      pages_are = ap (λ (s : Span). span c.args.self.room.pages.next s.stop) work.4.pages ∙ again.pages_are;
-      place_is = (work.4.place ∙ again.place_is.0, subst (λ (n : ℕ). n < c.come_back.new.seat.me.0.plan.places) (sym work.4.place) again.place_is.1);
-      in_order = (subst (λ (s : Span). c.args.self.room.rows.next ≤ s.stop) (sym work.4.rows) again.in_order.0, subst (λ (s : Span). c.args.self.room.pages.next ≤ s.stop) (sym work.4.pages) again.in_order.1);
+    let work = c.requires.ended in
+    let came = work.4 in
+    let out = came.1 in
+    let again = is_idle_again out work.2 c.come_back.new.seat (its_end out work.2 came.2 came.3) c.come_back.ensures.idle in record {
+      rows_are = ap (λ (s : Span). span c.args.self.room.rows.next s.stop) work.5.rows ∙ again.rows_are;
+      pages_are = ap (λ (s : Span). span c.args.self.room.pages.next s.stop) work.5.pages ∙ again.pages_are;
+      place_is = (work.5.place ∙ again.place_is.0, subst (λ (n : ℕ). n < c.come_back.new.seat.me.0.plan.places) (sym work.5.place) again.place_is.1);
+      in_order = (subst (λ (s : Span). c.args.self.room.rows.next ≤ s.stop) (sym work.5.rows) again.in_order.0, subst (λ (s : Span). c.args.self.room.pages.next ≤ s.stop) (sym work.5.pages) again.in_order.1);
       role_is = again.role_is;
       common = again.common;
       no_key = again.no_key;
@@ -38,6 +38,5 @@ invariant_of-result c =
     }
 
 pub returns : goal.returns
-returns c op old answer its out beside given =
-    let ended = c.requires.ended in
-    has_changed out answer _ its (its_end out answer ended.1 given) c.come_back.ensures.same c.come_back.ensures.idle (ap (λ (s : Span). span c.args.self.room.rows.next s.stop) beside.rows) (ap (λ (s : Span). span c.args.self.room.pages.next s.stop) beside.pages)
+returns c op old answer its came beside =
+    has_changed came.1 answer _ its (its_end came.1 answer came.2 came.3) c.come_back.ensures.same c.come_back.ensures.idle (ap (λ (s : Span). span c.args.self.room.rows.next s.stop) beside.rows) (ap (λ (s : Span). span c.args.self.room.pages.next s.stop) beside.pages)
