@@ -1,5 +1,5 @@
 -- A leaf whose row has records: the newest record of each key, and a walk over them and the base's entries by ascending keys.
-use Rattle.std.specs.Prelude.{◌≡◌, ℕ, suc, ◌+◌, ◌<◌, ◌≤◌, ◌==◌, nat_le, if◌then◌else◌, Option, Some, List, [], ◌∷◌, ◌++◌, length}
+use Rattle.std.specs.Prelude.{◌≡◌, ℕ, suc, ◌+◌, ◌<◌, ◌≤◌, ◌==◌, nat_le, if◌then◌else◌, Option, Some, List, [], ◌∷◌, ◌++◌, length, reverse}
 use Rattle.blink_batch.specs.declared.Entry.{Entry}
 use Rattle.blink_page.specs.{IsRising, PlainPage, least_above, value_at}
 use Rattle.blink_rows.specs.{pointer_after}
@@ -94,3 +94,20 @@ pub data IsPrevious (entries : List (ℕ × ℕ)) (records : List Record) (key :
       → IsPrevious entries records key kept entries_left records_left
   both_last : (r : Record) (pointer : ℕ) → entries ≡ entries_left ++ (key, pointer) ∷ [] → records ≡ records_left ++ r ∷ [] → r.key ≡ key → kept ≡ pointer_after r
       → IsPrevious entries records key kept entries_left records_left
+
+-- below `stop` the entries and records say what is known of the keys from `low` to `high`
+pub record IsMergingBack (known : ℕ → Option ℕ) (low high stop : ℕ) (entries : List (ℕ × ℕ)) (records : List Record) : Type 0 where
+  pub rises : IsRising low entries stop
+  pub ascend : RecordsRise low records stop
+  pub says : (key : ℕ) → low ≤ key → key ≤ high → key < stop → known key ≡ told records key (value_at key entries)
+
+-- a backward scan of the keys from `from` down to `lo` copies as it walks over a leaf whose keys are from `low` on:
+-- the walk has come to this key, and these entries and records are left
+pub record HasMergedBack (known : ℕ → Option ℕ) (lo from low : ℕ) (left : List (ℕ × ℕ)) (rest : List Record) (old now : List Entry) (filled : ℕ) : Type 0 where
+  pub cursor : ℕ
+  pub merging : IsMergingBack known low from cursor left rest
+  pub within : lo ≤ cursor
+  pub entries : List Entry
+  pub is_filled : IsFilled (reverse entries) old now
+  pub count : filled ≡ length entries
+  pub copied : IsCopied known cursor (from + 1) entries

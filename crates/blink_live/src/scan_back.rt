@@ -8,11 +8,12 @@
 ghost use Rattle.std.specs.Prelude.{◌≡◌, ◌+◌, ◌<◌, ◌≤◌, ℕ, List, Option, Some, IfNone, IfSome, length, take, drop, reverse};
 ghost use Rattle.blink_batch.specs.declared.Entry.{Entry};
 ghost use Rattle.blink_page.specs.{PlainPage};
+ghost use Rattle.blink_page.specs.declared.limits.TheConstants.{MAX_FAN};
 ghost use Rattle.blink_rows.specs.{row_in};
 ghost use Rattle.blink_rows.specs.declared.limits.TheConstants.{MAX_RECORDS, ROW_WORDS};
 ghost use Rattle.blink_live.specs.Finding.{IsIdle};
 ghost use Rattle.blink_live.specs.Handles.{IsPassOf, IsSameBesideSeen, KnowsItsKeys, keys_of, opening_of, seen_of, share_of};
-ghost use Rattle.blink_live.specs.Merging.{AreNewest};
+ghost use Rattle.blink_live.specs.Merging.{AreNewest, HasMergedBack, IsAboveRecords};
 ghost use Rattle.blink_live.specs.Scanning.{IsCopied, IsFilled, SaysOfKeys, StoppedFull};
 ghost use Rattle.blink_live.specs.ScanningBack.{HasScannedBack, IsReportBack, ReportBackLaw, start_of};
 ghost use Rattle.blink_live.specs.Seats.{HasLesser, HasSameNumber, IsPassSeat, IsSameSeat, ReadsLeaf, ReadsPage};
@@ -200,7 +201,9 @@ impl Live {
             entries: self.load_word(seat, start, COUNT) as usize,
             records: newest.len(),
         };
-        let mut filled = 0;
+        let first = self.copy_run_back(seat, start, newest, walk, lo, from, into, 0);
+        walk.entries = first.0;
+        let mut filled = first.1;
         while let Some(met) = self.key_before(seat, start, newest, walk) {
             if met.key < lo {
                 return Scanned { filled, next: None };
@@ -222,12 +225,59 @@ impl Live {
                 key: met.key,
                 pointer,
             };
-            filled += 1;
+            let run = self.copy_run_back(seat, start, newest, walk, lo, from, into, filled + 1);
+            walk.entries = run.0;
+            filled = run.1;
         }
         Scanned {
             filled,
             next: not_below(lo, self.load_floor(seat, start)),
         }
+    }
+
+    // Copies a run of the base's entries, from the walk's place down to the record before: as long as the keys are down to `lo`, and there
+    // are places. Returns how many entries are left then, and how many places are filled. A run takes no look at records.
+    fn copy_run_back(
+        &self,
+        seat: &mut Seat<u8, View>,
+        start: usize,
+        newest: &[Record],
+        walk: Walk,
+        lo: u64,
+        from: u64,
+        into: &mut [Entry],
+        mut filled: usize,
+    ) -> (usize, usize)
+        requires seat { IsPassSeat self.now seat.old.table_id seat.old.me }
+        requires inside { start + ROW_WORDS ≤ word_count self.now.counts }
+        requires few { (walk.entries ≤ MAX_FAN) × (walk.records ≤ length newest.now) }
+        ensures same { IsSameSeat seat.old seat.new }
+        ensures passed { result.0 ≤ walk.entries }
+        ensures merged { (row : ℕ) (base : PlainPage) (known : ℕ → Option ℕ) (low : ℕ) (old : List Entry)
+            → start ≡ row_start self.now.counts row
+            → ReadsPage seat.old.me row base
+            → walk.entries ≤ length base.entries
+            → length old ≡ length into.old
+            → HasMergedBack known lo from low (take walk.entries base.entries)
+            (take walk.records newest.now) old into.old filled
+            → HasMergedBack known lo from low (take result.0 base.entries)
+            (take walk.records newest.now) old into.new result.1 }
+    {
+        let bound = bound_before(newest, walk.records);
+        for place in (0..walk.entries).rev() {
+            let at = HEAD_WORDS + ENTRY_WORDS * place;
+            let key = self.load_word(seat, start, at);
+            if key <= bound || key < lo || filled >= into.len() {
+                return (place + 1, filled);
+            }
+            if key > from {
+                continue;
+            }
+            let pointer = self.load_word(seat, start, at + 1);
+            into[filled] = Entry { key, pointer };
+            filled += 1;
+        }
+        (0, filled)
     }
 
     // Loads the floor of the page whose row begins at `start`.
@@ -244,6 +294,17 @@ impl Live {
         }
         Some(self.load_word(seat, start, FLOOR))
     }
+}
+
+// The key of the record before this place, or the least key before the first record.
+fn bound_before(records: &[Record], place: usize) -> u64
+    requires { place ≤ length records.now }
+    ensures { (key : ℕ) → result < key → IsAboveRecords key (take place records.now) }
+{
+    if place == 0 {
+        return 0;
+    }
+    records[place - 1].key
 }
 
 // The leaf's floor, unless that is below `lo`.

@@ -11,12 +11,12 @@ use Rattle.blink_batch.specs.{entry, pointer_of}
 use Rattle.blink_page.specs.{IsLawfulPage, IsRising, PlainPage, least_above}
 use Rattle.blink_page.specs.declared.limits.TheConstants.{MAX_FAN}
 use Rattle.blink_rows.specs.declared.log.Record.{Record}
-use Rattle.blink_live.specs.Merging.{AreNewest, RecordsRise}
+use Rattle.blink_live.specs.Merging.{AreNewest, HasMergedBack, IsMergingBack, RecordsRise}
 use Rattle.blink_live.specs.Scanning.{IsBetween, IsCopied, IsFilled}
 use Rattle.blink_live.specs.ScanningBack.{start_of}
 use Rattle.blink_live.specs.Seats.{HasLesser}
 use Rattle.blink_live.proofs.scanned.PlacesAreFilled.{filled_more, filled_none}
-use Rattle.blink_live.proofs.scanned.WalksBack.{GoesBack, IsMergingBack}
+use Rattle.blink_live.proofs.scanned.WalksBack.{GoesBack}
 
 -- ---- the copy of the keys from `start` on
 
@@ -65,16 +65,6 @@ begins_before start stop [] all some = absurd (omega (arith, some))
 begins_before start stop (e ∷ rest) all some = let low = all.0.0 in let less = all.0.1 in omega (arith, low, less)
 
 -- ---- the walk over a leaf whose keys are from `low` on
-
--- the walk has come to this key, and these entries and records are left
-pub record HasMergedBack (known : ℕ → Option ℕ) (lo from low : ℕ) (left : List (ℕ × ℕ)) (rest : List Record) (old now : List Entry) (filled : ℕ) : Type 0 where
-  pub cursor : ℕ
-  pub merging : IsMergingBack known low from cursor left rest
-  pub within : lo ≤ cursor
-  pub entries : List Entry
-  pub is_filled : IsFilled (reverse entries) old now
-  pub count : filled ≡ length entries
-  pub copied : IsCopied known cursor (from + 1) entries
 
 -- it begins
 pub merged_none_back : (known : ℕ → Option ℕ) (lo from : ℕ) (base leaf : PlainPage) (records : List Record) (old : List Entry) → IsLawfulPage MAX_FAN base → AreNewest base leaf records → HasLesser known from leaf → from ≤ leaf.high → lo ≤ from

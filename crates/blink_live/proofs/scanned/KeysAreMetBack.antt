@@ -67,3 +67,14 @@ module _ (es : List (ℕ × ℕ)) (rs : List Record) (many few : ℕ) where
           record_last r (last_record next one within) (sym its_key) its_pointer (ap (λ (n : ℕ). take n es) (without is))
           (subst (IsAboveEntries key) (sym (last_entry (many - 1) (omega (arith, some)) inside)) (above_entries key (take (many - 1) es) e.0 e.1 less))
     ]) refl
+
+-- ---- a run of entries behind the last record that is left
+
+pub meets_in_run_back : (es : List (ℕ × ℕ)) (rs : List Record) (many left key : ℕ) → many ≡ left + 1 → left < length es → key ≡ (get_or es left (0, 0)).0 → IsAboveRecords key rs → IsPrevious (take many es) rs key (Some (get_or es left (0, 0)).1) (take left es) rs
+meets_in_run_back es rs many left key one inside its_key above =
+    let pair : get_or es left (0, 0) ≡ (key, (get_or es left (0, 0)).1) = λ j. (sym its_key j, (get_or es left (0, 0)).1) in
+    entry_last (get_or es left (0, 0)).1 (ap (λ (n : ℕ). take n es) one ∙ (take_more es left (0, 0) inside ∙ (λ j. let x : ℕ × ℕ = pair j in take left es ++ x ∷ []))) refl refl above
+
+-- a key above the last record that is left
+pub above_last : (rs : List Record) (few key : ℕ) → 0 < few → few ≤ length rs → (get_or rs (few - 1) no_record).key < key → IsAboveRecords key (take few rs)
+above_last rs few key some within less = subst (IsAboveRecords key) (sym (last_record [] rs 0 few (few - 1) (omega (arith, some)) within)) (above_records key (take (few - 1) rs) (get_or rs (few - 1) no_record) less)

@@ -6,14 +6,8 @@ use Rattle.blink_page.proofs.LookUps.{value_at-above, value_at-append_prefix, va
 use Rattle.blink_page.proofs.Offered.{from_at_most_to}
 use Rattle.blink_rows.specs.{pointer_after}
 use Rattle.blink_rows.specs.declared.log.Record.{Record}
-use Rattle.blink_live.specs.Merging.{IsAboveEntries, IsAboveRecords, IsPrevious, RecordsRise, both_last, entry_last, record_last, told}
+use Rattle.blink_live.specs.Merging.{IsAboveEntries, IsAboveRecords, IsMergingBack, IsPrevious, RecordsRise, both_last, entry_last, record_last, told}
 use Rattle.blink_live.proofs.scanned.WalksOverLeaves.{records_at_most}
-
--- below `stop` the entries and records say what is known of the keys from `low` to `high`
-pub record IsMergingBack (known : ℕ → Option ℕ) (low high stop : ℕ) (entries : List (ℕ × ℕ)) (records : List Record) : Type 0 where
-  pub rises : IsRising low entries stop
-  pub ascend : RecordsRise low records stop
-  pub says : (key : ℕ) → low ≤ key → key ≤ high → key < stop → known key ≡ told records key (value_at key entries)
 
 -- the walk meets a key, and goes on before it
 pub record GoesBack (known : ℕ → Option ℕ) (low high stop key : ℕ) (kept : Option ℕ) (entries : List (ℕ × ℕ)) (records : List Record) : Type 0 where

@@ -1,14 +1,15 @@
-use Rattle.std.proofs.Common.{◌≡◌, ℕ, ◌≤◌, Option, List, [], length, take, sym, ap, ◌∙◌, subst, arith}
-use Rattle.std.proofs.lemmas.List.{length-reverse, take_all}
+use Rattle.std.proofs.Common.{◌≡◌, ℕ, ◌≤◌, Option, List, [], length, take, sym, ap, ◌∙◌, refl, subst, arith}
+use Rattle.std.proofs.lemmas.List.{length-reverse, length-set, take_all}
 use Rattle.blink_batch.specs.declared.Entry.{Entry}
+use Rattle.blink_batch.specs.{entry}
 use Rattle.blink_page.specs.{PlainPage, least_above}
 use Rattle.blink_page.specs.declared.limits.TheConstants.{MAX_FAN}
 use Rattle.blink_rows.specs.{page_words}
 use Rattle.blink_rows.specs.declared.log.Record.{Record}
-use Rattle.blink_live.specs.Merging.{IsPrevious}
+use Rattle.blink_live.specs.Merging.{HasMergedBack, IsPrevious}
 use Rattle.blink_live.specs.Seats.{ReadsPage}
 use Rattle.blink_live.specs.Views.{SeatState, known_of}
-use Rattle.blink_live.proofs.scanned.KeysAreCopiedBack.{HasMergedBack, key_is_before, merged_behind_key, merged_none_back, merged_one_back, merged_to_floor, merged_to_lo, passed_above, passed_none_back}
+use Rattle.blink_live.proofs.scanned.KeysAreCopiedBack.{key_is_before, merged_behind_key, merged_none_back, merged_one_back, merged_to_floor, merged_to_lo, passed_above, passed_none_back}
 use Rattle.blink_live.proofs.scanned.WalksBack.{GoesBack, goes_back}
 use Rattle.blink_live.proofs.live.Live.copy_merged_back.Goals as goal
 
@@ -25,18 +26,30 @@ still_reads {me} {now} {row} {base} same reads = subst (λ (x : SeatState). Read
 few_left : {me now : SeatState} {row count : ℕ} (base : PlainPage) → now ≡ me → ReadsPage me row base → count ≤ length base.entries → count ≤ MAX_FAN
 few_left base same reads within = let few = reads.lawful.at_most_fan in omega (arith, within, few)
 
+pub copy_run_back-first-requires-clause-few : goal.copy_run_back-first-requires-clause-few
+copy_run_back-first-requires-clause-few c =
+    let reads = c.requires.leaf.2 in
+    let count = c.load_word.ensures.word c.args.row (page_words c.requires.leaf.0) c.row_place-start.ensures.start reads.reads (omega arith) in
+    let few = reads.lawful.at_most_fan in
+    (omega (arith, count, few), omega arith)
+
 pub loop-met-init : goal.loop-met-init
 loop-met-init c =
+    let load = c.load_word.ensures in
+    let run = c.copy_run_back-first.ensures in
+    let passed = run.passed in
     let count : (base : PlainPage) → ReadsPage c.args.seat.now.me c.args.row base → c.load_word.result ≡ length base.entries =
-    λ base reads. c.load_word.ensures.word c.args.row (page_words base) c.row_place-start.ensures.start reads.reads (omega arith) in record {
-      same = c.load_word.ensures.same;
-      entries = λ base reads. let all = count base reads in omega (arith, all);
+    λ base reads. load.word c.args.row (page_words base) c.row_place-start.ensures.start reads.reads (omega arith) in record {
+      same = (run.same.0 ∙ load.same.0, run.same.1 ∙ load.same.1, run.same.2 ∙ load.same.2);
+      entries = λ base reads. let all = count base reads in omega (arith, all, passed);
       records = omega arith;
       merged = λ base leaf reads newest has most.
-          let all : take c.load_word.result base.entries ≡ base.entries = (let many = count base reads in take_all c.load_word.result base.entries (omega (arith, many))) in
+          let many = count base reads in
+          let all : take c.load_word.result base.entries ≡ base.entries = take_all c.load_word.result base.entries (omega (arith, many)) in
           let every : take (length c.args.newest.now) c.args.newest.now ≡ c.args.newest.now = take_all (length c.args.newest.now) c.args.newest.now (omega arith) in
-          subst (λ (x : List (ℕ × ℕ) × List Record). HasMergedBack (known_of c.args.seat.now.me.0) c.args.lo c.args.from (least_above leaf.floor) x.0 x.1 c.args.into.now c.args.into.now 0) (λ i. (sym all i, sym every i))
-          (merged_none_back (known_of c.args.seat.now.me.0) c.args.lo c.args.from base leaf c.args.newest.now c.args.into.now reads.lawful newest has most c.requires.range);
+          run.merged c.args.row base (known_of c.args.seat.now.me.0) (least_above leaf.floor) c.args.into.now c.row_place-start.ensures.start (still_reads load.same.2 reads) (omega (arith, many)) refl
+          (subst (λ (x : List (ℕ × ℕ) × List Record). HasMergedBack (known_of c.args.seat.now.me.0) c.args.lo c.args.from (least_above leaf.floor) x.0 x.1 c.args.into.now c.args.into.now 0) (λ i. (sym all i, sym every i))
+          (merged_none_back (known_of c.args.seat.now.me.0) c.args.lo c.args.from base leaf c.args.newest.now c.args.into.now reads.lawful newest has most c.requires.range));
     }
 
 pub loop-met-preserved-then-met-from : goal.loop-met-preserved-then-met-from
@@ -85,9 +98,11 @@ pub loop-met-preserved : goal.loop-met-preserved
 loop-met-preserved c =
     let same = c.loop-met.invariant.same in
     let key = c.key_before.ensures.same in
-    let inside = c.in-Some.ensures.inside in record {
-      same = (key.0 ∙ same.0, key.1 ∙ same.1, key.2 ∙ same.2);
-      entries = λ base reads. let within = c.loop-met.invariant.entries base reads in let less = inside.0 in omega (arith, within, less);
+    let inside = c.in-Some.ensures.inside in
+    let run = c.copy_run_back-run.ensures in
+    let passed = run.passed in record {
+      same = (run.same.0 ∙ key.0 ∙ same.0, run.same.1 ∙ key.1 ∙ same.1, run.same.2 ∙ key.2 ∙ same.2);
+      entries = λ base reads. let within = c.loop-met.invariant.entries base reads in let less = inside.0 in omega (arith, within, less, passed);
       records = (let within = c.loop-met.invariant.records in let less = inside.1 in omega (arith, within, less));
       merged = λ base leaf reads newest has most.
           let known = known_of c.args.seat.now.me.0 in
@@ -100,7 +115,10 @@ loop-met-preserved c =
           let met = c.in-Some.met in
           let previous = met_before was (c.in-Some.ensures.met c.args.row base c.row_place-start.ensures.start (still_reads at.same.2 reads) (at.entries base reads)) in
           let fits = was.is_filled.fits in let turned = length-reverse was.entries in let count = was.count in let long = c.loop-met.auto.into in let room = c.if-filled-into.false in
-          merged_one_back known c.args.lo c.args.from low left rest c.args.into.now c.loop-met.into c.loop-met.filled was met.key met.pointer (take met.walk.entries base.entries) (take met.walk.records c.args.newest.now) previous c.in-Some-pointer.pointer c.in-Some-pointer.is c.if-met-from.false c.if-met-lo.false (omega (arith, fits, turned, count, long, room));
+          let first = c.copy_run_back-first.auto.into in let set = length-set c.loop-met.into c.loop-met.filled (entry met.key c.in-Some-pointer.pointer) in
+          let within = at.entries base reads in let less = inside.0 in
+          run.merged c.args.row base known low c.args.into.now c.row_place-start.ensures.start (still_reads (key.2 ∙ same.2) reads) (omega (arith, within, less)) (omega (arith, long, first, set))
+          (merged_one_back known c.args.lo c.args.from low left rest c.args.into.now c.loop-met.into c.loop-met.filled was met.key met.pointer (take met.walk.entries base.entries) (take met.walk.records c.args.newest.now) previous c.in-Some-pointer.pointer c.in-Some-pointer.is c.if-met-from.false c.if-met-lo.false (omega (arith, fits, turned, count, long, room)));
     }
 
 pub returns-then-met-lo-clause-copied : goal.returns-then-met-lo-clause-copied

@@ -1,9 +1,8 @@
 use Rattle.std.proofs.Common.{◌+◌, ◌≤◌, length, take}
 use Rattle.blink_page.specs.{PlainPage, least_above}
-use Rattle.blink_live.specs.Merging.{AreNewest}
+use Rattle.blink_live.specs.Merging.{AreNewest, HasMergedBack}
 use Rattle.blink_live.specs.Seats.{HasLesser, IsSameSeat, ReadsPage}
 use Rattle.blink_live.specs.Views.{known_of}
-use Rattle.blink_live.proofs.scanned.KeysAreCopiedBack.{HasMergedBack}
 use Rattle.blink_live.proofs.live.Live.copy_merged_back.Given as goal
 
 abbrev pub invariant-loop-met : goal.invariant-loop-met
