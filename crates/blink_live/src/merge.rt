@@ -26,6 +26,17 @@ pub(crate) struct Walk {
     pub records: usize,
 }
 
+/// A leaf whose row has records, as a walk goes over it.
+#[derive(Clone, Copy)]
+pub(crate) struct LeafParts<'a> {
+    /// The place of the row's first word.
+    pub start: usize,
+    /// The number of the base's entries.
+    pub count: usize,
+    /// The newest record of each key that has one, by ascending keys.
+    pub newest: &'a [Record],
+}
+
 /// A key that a walk has met.
 #[derive(Clone, Copy)]
 pub(crate) struct Met {
@@ -66,33 +77,36 @@ impl Live {
         newest
     }
 
-    // The next key behind those that the walk has passed, in a leaf whose row begins at `start` with a base of `count` entries.
-    // `None` at the leaf's end.
+    // The next key behind those that the walk has passed. `None` at the leaf's end.
     pub(crate) fn next_key(
         &self,
         seat: &mut Seat<u8, View>,
-        start: usize,
-        count: usize,
-        newest: &[Record],
+        parts: &LeafParts<'_>,
         walk: Walk,
     ) -> Option<Met>
         requires seat { IsPassSeat self.now seat.old.table_id seat.old.me }
-        requires inside { start + ROW_WORDS ≤ word_count self.now.counts }
-        requires few { (count ≤ MAX_FAN) × (length newest.now ≤ MAX_RECORDS) }
-        requires walk { (walk.entries ≤ count) × (walk.records ≤ length newest.now) }
+        requires inside { parts.now.start + ROW_WORDS ≤ word_count self.now.counts }
+        requires few { (parts.now.count ≤ MAX_FAN) × (length parts.now.newest.now ≤ MAX_RECORDS) }
+        requires walk { (walk.entries ≤ parts.now.count) × (walk.records ≤ length parts.now.newest.now) }
         ensures same { IsSameSeat seat.old seat.new }
-        ensures none { IfNone result ((walk.entries ≡ count) × (walk.records ≡ length newest.now)) }
+        ensures none { IfNone result
+            ((walk.entries ≡ parts.now.count) × (walk.records ≡ length parts.now.newest.now)) }
         ensures inside { IfSome result
-            (λ met. (met.walk.entries ≤ count) × (met.walk.records ≤ length newest.now)) }
+            (λ met. (met.walk.entries ≤ parts.now.count) × (met.walk.records ≤ length parts.now.newest.now)) }
         ensures further { IfSome result
             (λ met. walk.entries + walk.records < met.walk.entries + met.walk.records) }
         ensures met { IfSome result (λ met. (row : ℕ) (base : PlainPage)
-            → start ≡ row_start self.now.counts row
+            → parts.now.start ≡ row_start self.now.counts row
             → ReadsPage seat.old.me row base
-            → count ≡ length base.entries
-            → IsNext (drop walk.entries base.entries) (drop walk.records newest.now) met.key met.pointer
-            (drop met.walk.entries base.entries) (drop met.walk.records newest.now)) }
+            → parts.now.count ≡ length base.entries
+            → IsNext (drop walk.entries base.entries) (drop walk.records parts.now.newest.now) met.key
+            met.pointer (drop met.walk.entries base.entries) (drop met.walk.records parts.now.newest.now)) }
     {
+        let LeafParts {
+            start,
+            count,
+            newest,
+        } = *parts;
         if walk.entries == count {
             if walk.records == newest.len() {
                 return None;
@@ -113,14 +127,13 @@ impl Live {
     pub(crate) fn key_before(
         &self,
         seat: &mut Seat<u8, View>,
-        start: usize,
-        newest: &[Record],
+        parts: &LeafParts<'_>,
         walk: Walk,
     ) -> Option<Met>
         requires seat { IsPassSeat self.now seat.old.table_id seat.old.me }
-        requires inside { start + ROW_WORDS ≤ word_count self.now.counts }
-        requires few { (walk.entries ≤ MAX_FAN) × (length newest.now ≤ MAX_RECORDS) }
-        requires walk { walk.records ≤ length newest.now }
+        requires inside { parts.now.start + ROW_WORDS ≤ word_count self.now.counts }
+        requires few { (walk.entries ≤ MAX_FAN) × (length parts.now.newest.now ≤ MAX_RECORDS) }
+        requires walk { walk.records ≤ length parts.now.newest.now }
         ensures same { IsSameSeat seat.old seat.new }
         ensures none { IfNone result ((walk.entries ≡ 0) × (walk.records ≡ 0)) }
         ensures inside { IfSome result
@@ -128,12 +141,17 @@ impl Live {
         ensures further { IfSome result
             (λ met. met.walk.entries + met.walk.records < walk.entries + walk.records) }
         ensures met { IfSome result (λ met. (row : ℕ) (base : PlainPage)
-            → start ≡ row_start self.now.counts row
+            → parts.now.start ≡ row_start self.now.counts row
             → ReadsPage seat.old.me row base
             → walk.entries ≤ length base.entries
-            → IsPrevious (take walk.entries base.entries) (take walk.records newest.now) met.key
-            met.pointer (take met.walk.entries base.entries) (take met.walk.records newest.now)) }
+            → IsPrevious (take walk.entries base.entries) (take walk.records parts.now.newest.now) met.key
+            met.pointer (take met.walk.entries base.entries) (take met.walk.records parts.now.newest.now)) }
     {
+        let LeafParts {
+            start,
+            count: _,
+            newest,
+        } = *parts;
         if walk.entries == 0 {
             if walk.records == 0 {
                 return None;

@@ -23,7 +23,7 @@ ghost use Rattle.blink_live.specs.Views.{known_of};
 ghost use Rattle.blink_live.specs.Words.{IsRowNumber, row_start, word_count};
 
 use crate::live::{Live, Pass};
-use crate::merge::Walk;
+use crate::merge::{LeafParts, Walk};
 use crate::read::link_of;
 use crate::rule::GoAlong;
 use crate::view::View;
@@ -40,6 +40,21 @@ pub struct Scanned {
     pub filled: usize,
     /// The key from which the next scan goes on. `None` if the scan has come to the end of its range.
     pub next: Option<u64>,
+}
+
+/// The keys that are copied of a leaf: those from `lo` to `hi`, both included.
+#[derive(Clone, Copy)]
+pub(crate) struct KeyRange {
+    pub lo: u64,
+    pub hi: u64,
+}
+
+/// How far the copy of a leaf that has records has come.
+#[derive(Clone, Copy)]
+pub(crate) struct Copied {
+    pub walk: Walk,
+    /// The number of places that are filled, from the first on.
+    pub filled: usize,
 }
 
 impl Live {
@@ -254,7 +269,8 @@ impl Live {
             return self.copy_row(seat, row_in(word), from, hi, into);
         }
         let newest = self.newest_records(seat, word);
-        self.copy_merged(seat, row_in(word), &newest, from, hi, into)
+        let range = KeyRange { lo: from, hi };
+        self.copy_merged(seat, row_in(word), &newest, range, into)
     }
 
     // The same of a leaf that has no records.
@@ -310,106 +326,117 @@ impl Live {
         seat: &mut Seat<u8, View>,
         row: u64,
         newest: &[Record],
-        from: u64,
-        hi: u64,
+        range: KeyRange,
         into: &mut [Entry],
     ) -> Scanned
         requires seat { IsPassSeat self.now seat.old.table_id seat.old.me }
         requires row { IsRowNumber self.now.counts row }
         requires few { length newest.now ≤ MAX_RECORDS }
         requires leaf { (base : PlainPage) × (leaf : PlainPage) × ReadsPage seat.old.me row base
-            × AreNewest base leaf newest.now × HasStates (known_of seat.old.me.0) from leaf }
-        requires range { from ≤ hi }
+            × AreNewest base leaf newest.now × HasStates (known_of seat.old.me.0) range.lo leaf }
+        requires range { range.lo ≤ range.hi }
         requires some_place { 1 ≤ length into.old }
         ensures same { IsSameSeat seat.old seat.new }
         ensures copied { (entries : List Entry) × IsFilled entries into.old into.new
             × (result.filled ≡ length entries)
-            × IsCopied (known_of seat.old.me.0) from (stop_of hi result.next) entries }
-        ensures further { IfSome result.next (λ next. (from < next) × (next ≤ hi)) }
+            × IsCopied (known_of seat.old.me.0) range.lo (stop_of range.hi result.next) entries }
+        ensures further { IfSome result.next (λ next. (range.lo < next) × (next ≤ range.hi)) }
     {
+        let KeyRange { lo, hi } = range;
         let start = self.row_place(row);
-        let count = self.load_word(seat, start, COUNT) as usize;
-        let mut walk = Walk {
+        let parts = LeafParts {
+            start,
+            count: self.load_word(seat, start, COUNT) as usize,
+            newest,
+        };
+        let walk = Walk {
             entries: 0,
             records: 0,
         };
-        let first = self.copy_run(seat, start, count, newest, walk, from, hi, into, 0);
-        walk.entries = first.0;
-        let mut filled = first.1;
-        while let Some(met) = self.next_key(seat, start, count, newest, walk) {
+        let mut copied = self.copy_run(seat, &parts, range, into, Copied { walk, filled: 0 });
+        while let Some(met) = self.next_key(seat, &parts, copied.walk) {
+            let filled = copied.filled;
             if met.key > hi {
                 return Scanned { filled, next: None };
             }
-            walk = met.walk;
-            if met.key < from {
+            copied.walk = met.walk;
+            if met.key < lo {
                 continue;
             }
             let Some(pointer) = met.pointer else {
                 continue;
             };
             if filled == into.len() {
-                return Scanned {
-                    filled,
-                    next: Some(met.key),
-                };
+                let next = Some(met.key);
+                return Scanned { filled, next };
             }
             into[filled] = Entry {
                 key: met.key,
                 pointer,
             };
-            let run = self.copy_run(seat, start, count, newest, walk, from, hi, into, filled + 1);
-            walk.entries = run.0;
-            filled = run.1;
+            copied.filled = filled + 1;
+            copied = self.copy_run(seat, &parts, range, into, copied);
         }
+        let filled = copied.filled;
         let last = self.load_word(seat, start, HIGH_KEY);
         let next = if last < hi { Some(last + 1) } else { None };
         Scanned { filled, next }
     }
 
-    // Copies a run of the base's entries, from the walk's place on up to the next record's key: as long as the keys are up to `hi`, and
-    // there are places. Returns how many entries are passed then, and how many places are filled. A run takes no look at records.
+    // Copies a run of the base's entries, from the walk's place on up to the next record's key: as long as the keys are in the range, and
+    // there are places. A run takes no look at records.
     fn copy_run(
         &self,
         seat: &mut Seat<u8, View>,
-        start: usize,
-        count: usize,
-        newest: &[Record],
-        walk: Walk,
-        from: u64,
-        hi: u64,
+        parts: &LeafParts<'_>,
+        range: KeyRange,
         into: &mut [Entry],
-        mut filled: usize,
-    ) -> (usize, usize)
+        copied: Copied,
+    ) -> Copied
         requires seat { IsPassSeat self.now seat.old.table_id seat.old.me }
-        requires inside { start + ROW_WORDS ≤ word_count self.now.counts }
-        requires few { (count ≤ MAX_FAN) × (walk.entries ≤ count) }
+        requires inside { parts.now.start + ROW_WORDS ≤ word_count self.now.counts }
+        requires few { (parts.now.count ≤ MAX_FAN) × (copied.walk.entries ≤ parts.now.count) }
         ensures same { IsSameSeat seat.old seat.new }
-        ensures passed { (walk.entries ≤ result.0) × (result.0 ≤ count) }
-        ensures merged { (row : ℕ) (base : PlainPage) (known : ℕ → Option ℕ) (stop : ℕ) (old : List Entry)
-            → start ≡ row_start self.now.counts row
+        ensures records { result.walk.records ≡ copied.walk.records }
+        ensures passed { (copied.walk.entries ≤ result.walk.entries)
+            × (result.walk.entries ≤ parts.now.count) }
+        ensures merged { (row : ℕ) (base : PlainPage) (known : ℕ → Option ℕ) (stop : ℕ)
+            (old : List Entry)
+            → parts.now.start ≡ row_start self.now.counts row
             → ReadsPage seat.old.me row base
-            → count ≡ length base.entries
+            → parts.now.count ≡ length base.entries
             → length old ≡ length into.old
-            → HasMerged known from hi stop (drop walk.entries base.entries)
-            (drop walk.records newest.now) old into.old filled
-            → HasMerged known from hi stop (drop result.0 base.entries)
-            (drop walk.records newest.now) old into.new result.1 }
+            → HasMerged known range.lo range.hi stop (drop copied.walk.entries base.entries)
+            (drop copied.walk.records parts.now.newest.now) old into.old copied.filled
+            → HasMerged known range.lo range.hi stop (drop result.walk.entries base.entries)
+            (drop result.walk.records parts.now.newest.now) old into.new result.filled }
     {
-        let bound = bound_at(newest, walk.records);
-        for place in walk.entries..count {
+        let KeyRange { lo, hi } = range;
+        let Walk { entries, records } = copied.walk;
+        let mut filled = copied.filled;
+        let bound = bound_at(parts.newest, records);
+        for place in entries..parts.count {
             let at = HEAD_WORDS + ENTRY_WORDS * place;
-            let key = self.load_word(seat, start, at);
+            let key = self.load_word(seat, parts.start, at);
             if key >= bound || key > hi || filled >= into.len() {
-                return (place, filled);
+                let walk = Walk {
+                    entries: place,
+                    records,
+                };
+                return Copied { walk, filled };
             }
-            if key < from {
+            if key < lo {
                 continue;
             }
-            let pointer = self.load_word(seat, start, at + 1);
+            let pointer = self.load_word(seat, parts.start, at + 1);
             into[filled] = Entry { key, pointer };
             filled += 1;
         }
-        (count, filled)
+        let walk = Walk {
+            entries: parts.count,
+            records,
+        };
+        Copied { walk, filled }
     }
 }
 

@@ -21,8 +21,8 @@ ghost use Rattle.blink_live.specs.Views.{known_of};
 ghost use Rattle.blink_live.specs.Words.{IsRowNumber, row_start, word_count};
 
 use crate::live::{Live, Pass};
-use crate::merge::Walk;
-use crate::scan::Scanned;
+use crate::merge::{LeafParts, Walk};
+use crate::scan::{Copied, KeyRange, Scanned};
 use crate::view::View;
 use atomic_table::Seat;
 use blink_batch::Entry;
@@ -125,7 +125,8 @@ impl Live {
             return self.copy_row_back(seat, row_in(word), lo, from, into);
         }
         let newest = self.newest_records(seat, word);
-        self.copy_merged_back(seat, row_in(word), &newest, lo, from, into)
+        let range = KeyRange { lo, hi: from };
+        self.copy_merged_back(seat, row_in(word), &newest, range, into)
     }
 
     // The same of a leaf that has no records.
@@ -178,106 +179,117 @@ impl Live {
         seat: &mut Seat<u8, View>,
         row: u64,
         newest: &[Record],
-        lo: u64,
-        from: u64,
+        range: KeyRange,
         into: &mut [Entry],
     ) -> Scanned
         requires seat { IsPassSeat self.now seat.old.table_id seat.old.me }
         requires row { IsRowNumber self.now.counts row }
         requires few { length newest.now ≤ MAX_RECORDS }
         requires leaf { (base : PlainPage) × (leaf : PlainPage) × ReadsPage seat.old.me row base
-            × AreNewest base leaf newest.now × HasLesser (known_of seat.old.me.0) from leaf
-            × (from ≤ leaf.high) }
-        requires range { lo ≤ from }
+            × AreNewest base leaf newest.now × HasLesser (known_of seat.old.me.0) range.hi leaf
+            × (range.hi ≤ leaf.high) }
+        requires range { range.lo ≤ range.hi }
         requires some_place { 1 ≤ length into.old }
         ensures same { IsSameSeat seat.old seat.new }
         ensures copied { (entries : List Entry) × IsFilled (reverse entries) into.old into.new
             × (result.filled ≡ length entries)
-            × IsCopied (known_of seat.old.me.0) (start_of lo result.next) (from + 1) entries }
-        ensures further { IfSome result.next (λ next. (lo ≤ next) × (next < from)) }
+            × IsCopied (known_of seat.old.me.0) (start_of range.lo result.next) (range.hi + 1) entries }
+        ensures further { IfSome result.next (λ next. (range.lo ≤ next) × (next < range.hi)) }
     {
+        let KeyRange { lo, hi } = range;
         let start = self.row_place(row);
-        let mut walk = Walk {
-            entries: self.load_word(seat, start, COUNT) as usize,
+        let parts = LeafParts {
+            start,
+            count: self.load_word(seat, start, COUNT) as usize,
+            newest,
+        };
+        let walk = Walk {
+            entries: parts.count,
             records: newest.len(),
         };
-        let first = self.copy_run_back(seat, start, newest, walk, lo, from, into, 0);
-        walk.entries = first.0;
-        let mut filled = first.1;
-        while let Some(met) = self.key_before(seat, start, newest, walk) {
+        let mut copied = self.copy_run_back(seat, &parts, range, into, Copied { walk, filled: 0 });
+        while let Some(met) = self.key_before(seat, &parts, copied.walk) {
+            let filled = copied.filled;
             if met.key < lo {
                 return Scanned { filled, next: None };
             }
-            walk = met.walk;
-            if met.key > from {
+            copied.walk = met.walk;
+            if met.key > hi {
                 continue;
             }
             let Some(pointer) = met.pointer else {
                 continue;
             };
             if filled == into.len() {
-                return Scanned {
-                    filled,
-                    next: Some(met.key),
-                };
+                let next = Some(met.key);
+                return Scanned { filled, next };
             }
             into[filled] = Entry {
                 key: met.key,
                 pointer,
             };
-            let run = self.copy_run_back(seat, start, newest, walk, lo, from, into, filled + 1);
-            walk.entries = run.0;
-            filled = run.1;
+            copied.filled = filled + 1;
+            copied = self.copy_run_back(seat, &parts, range, into, copied);
         }
-        Scanned {
-            filled,
-            next: not_below(lo, self.load_floor(seat, start)),
-        }
+        let filled = copied.filled;
+        let floor = self.load_floor(seat, start);
+        let next = not_below(lo, floor);
+        Scanned { filled, next }
     }
 
-    // Copies a run of the base's entries, from the walk's place down to the record before: as long as the keys are down to `lo`, and there
-    // are places. Returns how many entries are left then, and how many places are filled. A run takes no look at records.
+    // Copies a run of the base's entries, from the walk's place down to the record before: as long as the keys are in the range, and there
+    // are places. A run takes no look at records.
     fn copy_run_back(
         &self,
         seat: &mut Seat<u8, View>,
-        start: usize,
-        newest: &[Record],
-        walk: Walk,
-        lo: u64,
-        from: u64,
+        parts: &LeafParts<'_>,
+        range: KeyRange,
         into: &mut [Entry],
-        mut filled: usize,
-    ) -> (usize, usize)
+        copied: Copied,
+    ) -> Copied
         requires seat { IsPassSeat self.now seat.old.table_id seat.old.me }
-        requires inside { start + ROW_WORDS ≤ word_count self.now.counts }
-        requires few { (walk.entries ≤ MAX_FAN) × (walk.records ≤ length newest.now) }
+        requires inside { parts.now.start + ROW_WORDS ≤ word_count self.now.counts }
+        requires few { (copied.walk.entries ≤ MAX_FAN) × (copied.walk.records ≤ length parts.now.newest.now) }
         ensures same { IsSameSeat seat.old seat.new }
-        ensures passed { result.0 ≤ walk.entries }
-        ensures merged { (row : ℕ) (base : PlainPage) (known : ℕ → Option ℕ) (low : ℕ) (old : List Entry)
-            → start ≡ row_start self.now.counts row
+        ensures records { result.walk.records ≡ copied.walk.records }
+        ensures passed { result.walk.entries ≤ copied.walk.entries }
+        ensures merged { (row : ℕ) (base : PlainPage) (known : ℕ → Option ℕ) (low : ℕ)
+            (old : List Entry)
+            → parts.now.start ≡ row_start self.now.counts row
             → ReadsPage seat.old.me row base
-            → walk.entries ≤ length base.entries
+            → copied.walk.entries ≤ length base.entries
             → length old ≡ length into.old
-            → HasMergedBack known lo from low (take walk.entries base.entries)
-            (take walk.records newest.now) old into.old filled
-            → HasMergedBack known lo from low (take result.0 base.entries)
-            (take walk.records newest.now) old into.new result.1 }
+            → HasMergedBack known range.lo range.hi low (take copied.walk.entries base.entries)
+            (take copied.walk.records parts.now.newest.now) old into.old copied.filled
+            → HasMergedBack known range.lo range.hi low (take result.walk.entries base.entries)
+            (take result.walk.records parts.now.newest.now) old into.new result.filled }
     {
-        let bound = bound_before(newest, walk.records);
-        for place in (0..walk.entries).rev() {
+        let KeyRange { lo, hi } = range;
+        let Walk { entries, records } = copied.walk;
+        let mut filled = copied.filled;
+        let bound = bound_before(parts.newest, records);
+        for place in (0..entries).rev() {
             let at = HEAD_WORDS + ENTRY_WORDS * place;
-            let key = self.load_word(seat, start, at);
+            let key = self.load_word(seat, parts.start, at);
             if key <= bound || key < lo || filled >= into.len() {
-                return (place + 1, filled);
+                let walk = Walk {
+                    entries: place + 1,
+                    records,
+                };
+                return Copied { walk, filled };
             }
-            if key > from {
+            if key > hi {
                 continue;
             }
-            let pointer = self.load_word(seat, start, at + 1);
+            let pointer = self.load_word(seat, parts.start, at + 1);
             into[filled] = Entry { key, pointer };
             filled += 1;
         }
-        (0, filled)
+        let walk = Walk {
+            entries: 0,
+            records,
+        };
+        Copied { walk, filled }
     }
 
     // Loads the floor of the page whose row begins at `start`.

@@ -27,28 +27,28 @@ high_read : {me now : SeatState} {row last : ℕ} (base : PlainPage) → now ≡
 high_read base same reads loads = loads (page_words base) (still_reads same reads).reads (omega arith)
 
 -- the base has no more entries than a row has room for
-pub copy_run-first-requires-clause-few : goal.copy_run-first-requires-clause-few
-copy_run-first-requires-clause-few c =
+pub copy_run-copied-requires-clause-few : goal.copy_run-copied-requires-clause-few
+copy_run-copied-requires-clause-few c =
     let reads = c.requires.leaf.2 in
-    let count = c.load_word-count.ensures.word c.args.row (page_words c.requires.leaf.0) c.row_place-start.ensures.start reads.reads (omega arith) in
+    let count = c.load_word.ensures.word c.args.row (page_words c.requires.leaf.0) c.row_place-start.ensures.start reads.reads (omega arith) in
     let few = reads.lawful.at_most_fan in
     (omega (arith, count, few), omega arith)
 
 pub loop-met-init : goal.loop-met-init
 loop-met-init c =
-    let load = c.load_word-count.ensures in
-    let run = c.copy_run-first.ensures in
-    let count : (base : PlainPage) → ReadsPage c.args.seat.now.me c.args.row base → c.load_word-count.result ≡ length base.entries = λ base reads. load.word c.args.row (page_words base) c.row_place-start.ensures.start reads.reads (omega arith) in record {
+    let load = c.load_word.ensures in
+    let run = c.copy_run-copied.ensures in
+    let count : (base : PlainPage) → ReadsPage c.args.seat.now.me c.args.row base → c.load_word.result ≡ length base.entries = λ base reads. load.word c.args.row (page_words base) c.row_place-start.ensures.start reads.reads (omega arith) in record {
       same = (run.same.0 ∙ load.same.0, run.same.1 ∙ load.same.1, run.same.2 ∙ load.same.2);
       count = count;
-      within = (run.passed.1, omega arith);
+      within = (run.passed.1, (let kept = run.records in omega (arith, kept)));
       merged = λ base leaf reads newest has.
           run.merged c.args.row base (known_of c.args.seat.now.me.0) (base.high + 1) c.args.into.now c.row_place-start.ensures.start (still_reads load.same.2 reads) (count base reads) refl
-          (merged_none (known_of c.args.seat.now.me.0) c.args.from c.args.hi base leaf c.args.newest.now c.args.into.now reads.lawful newest has);
+          (merged_none (known_of c.args.seat.now.me.0) c.args.range.lo c.args.range.hi base leaf c.args.newest.now c.args.into.now reads.lawful newest has);
     }
 
-pub loop-met-preserved-then-met-from : goal.loop-met-preserved-then-met-from
-loop-met-preserved-then-met-from c =
+pub loop-met-preserved-then-met-lo : goal.loop-met-preserved-then-met-lo
+loop-met-preserved-then-met-lo c =
     let same = c.loop-met.invariant.same in
     let key = c.next_key.ensures.same in record {
       same = (key.0 ∙ same.0, key.1 ∙ same.1, key.2 ∙ same.2);
@@ -57,13 +57,13 @@ loop-met-preserved-then-met-from c =
       merged = λ base leaf reads newest has.
           let known = known_of c.args.seat.now.me.0 in
           let at = c.loop-met.invariant in
-          let walk = c.loop-met.walk in
+          let walk = c.loop-met.copied.walk in
           let left = drop walk.entries base.entries in
           let rest = drop walk.records c.args.newest.now in
           let was = at.merged base leaf reads newest has in
           let met = c.in-Some.met in
           let next = met_behind was (c.in-Some.ensures.met c.args.row base c.row_place-start.ensures.start (still_reads at.same.2 reads) (at.count base reads)) in
-          passed_below known c.args.from c.args.hi (base.high + 1) left rest c.args.into.now c.loop-met.into c.loop-met.filled was met.key met.pointer (drop met.walk.entries base.entries) (drop met.walk.records c.args.newest.now) next c.if-met-from.true c.if-met-hi.false;
+          passed_below known c.args.range.lo c.args.range.hi (base.high + 1) left rest c.args.into.now c.loop-met.into c.loop-met.copied.filled was met.key met.pointer (drop met.walk.entries base.entries) (drop met.walk.records c.args.newest.now) next c.if-met-lo.true c.if-met-hi.false;
     }
 
 pub loop-met-preserved-in_default-pointer : goal.loop-met-preserved-in_default-pointer
@@ -76,35 +76,35 @@ loop-met-preserved-in_default-pointer c =
       merged = λ base leaf reads newest has.
           let known = known_of c.args.seat.now.me.0 in
           let at = c.loop-met.invariant in
-          let walk = c.loop-met.walk in
+          let walk = c.loop-met.copied.walk in
           let left = drop walk.entries base.entries in
           let rest = drop walk.records c.args.newest.now in
           let was = at.merged base leaf reads newest has in
           let met = c.in-Some.met in
           let next = met_behind was (c.in-Some.ensures.met c.args.row base c.row_place-start.ensures.start (still_reads at.same.2 reads) (at.count base reads)) in
-          passed_none known c.args.from c.args.hi (base.high + 1) left rest c.args.into.now c.loop-met.into c.loop-met.filled was met.key met.pointer (drop met.walk.entries base.entries) (drop met.walk.records c.args.newest.now) next c.in_default-pointer.is c.if-met-hi.false;
+          passed_none known c.args.range.lo c.args.range.hi (base.high + 1) left rest c.args.into.now c.loop-met.into c.loop-met.copied.filled was met.key met.pointer (drop met.walk.entries base.entries) (drop met.walk.records c.args.newest.now) next c.in_default-pointer.is c.if-met-hi.false;
     }
 
 pub loop-met-preserved : goal.loop-met-preserved
 loop-met-preserved c =
     let same = c.loop-met.invariant.same in
     let key = c.next_key.ensures.same in
-    let run = c.copy_run-run.ensures in record {
+    let run = c.copy_run-copied-in-Some.ensures in record {
       same = (run.same.0 ∙ key.0 ∙ same.0, run.same.1 ∙ key.1 ∙ same.1, run.same.2 ∙ key.2 ∙ same.2);
       count = c.loop-met.invariant.count;
-      within = (run.passed.1, c.in-Some.ensures.inside.1);
+      within = (run.passed.1, (let kept = run.records in let inside = c.in-Some.ensures.inside.1 in omega (arith, kept, inside)));
       merged = λ base leaf reads newest has.
           let known = known_of c.args.seat.now.me.0 in
           let at = c.loop-met.invariant in
-          let walk = c.loop-met.walk in
+          let walk = c.loop-met.copied.walk in
           let left = drop walk.entries base.entries in
           let rest = drop walk.records c.args.newest.now in
           let was = at.merged base leaf reads newest has in
           let met = c.in-Some.met in
           let next = met_behind was (c.in-Some.ensures.met c.args.row base c.row_place-start.ensures.start (still_reads at.same.2 reads) (at.count base reads)) in
           let fits = was.is_filled.fits in let count = was.count in let long = c.loop-met.auto.into in let room = c.if-filled-into.false in
-          run.merged c.args.row base known (base.high + 1) c.args.into.now c.row_place-start.ensures.start (still_reads (key.2 ∙ same.2) reads) (at.count base reads) (let first = c.copy_run-first.auto.into in let set = length-set c.loop-met.into c.loop-met.filled (entry met.key c.in-Some-pointer.pointer) in omega (arith, long, first, set))
-          (merged_one known c.args.from c.args.hi (base.high + 1) left rest c.args.into.now c.loop-met.into c.loop-met.filled was met.key met.pointer (drop met.walk.entries base.entries) (drop met.walk.records c.args.newest.now) next c.in-Some-pointer.pointer c.in-Some-pointer.is c.if-met-from.false c.if-met-hi.false (omega (arith, fits, count, long, room)));
+          run.merged c.args.row base known (base.high + 1) c.args.into.now c.row_place-start.ensures.start (still_reads (key.2 ∙ same.2) reads) (at.count base reads) (let first = c.copy_run-copied.auto.into in let set = length-set c.loop-met.into c.loop-met.copied.filled (entry met.key c.in-Some-pointer.pointer) in omega (arith, long, first, set))
+          (merged_one known c.args.range.lo c.args.range.hi (base.high + 1) left rest c.args.into.now c.loop-met.into c.loop-met.copied.filled was met.key met.pointer (drop met.walk.entries base.entries) (drop met.walk.records c.args.newest.now) next c.in-Some-pointer.pointer c.in-Some-pointer.is c.if-met-lo.false c.if-met-hi.false (omega (arith, fits, count, long, room)));
     }
 
 pub returns-then-met-hi-clause-copied : goal.returns-then-met-hi-clause-copied
@@ -116,13 +116,13 @@ returns-then-met-hi-clause-copied c =
     let has = c.requires.leaf.4 in
     let known = known_of c.args.seat.now.me.0 in
     let at = c.loop-met.invariant in
-    let walk = c.loop-met.walk in
+    let walk = c.loop-met.copied.walk in
     let left = drop walk.entries base.entries in
     let rest = drop walk.records c.args.newest.now in
     let was = at.merged base leaf reads newest has in
     let met = c.in-Some.met in
     let next = met_behind was (c.in-Some.ensures.met c.args.row base c.row_place-start.ensures.start (still_reads at.same.2 reads) (at.count base reads)) in
-    merged_to_hi known c.args.from c.args.hi (base.high + 1) left rest c.args.into.now c.loop-met.into c.loop-met.filled was met.key met.pointer (drop met.walk.entries base.entries) (drop met.walk.records c.args.newest.now) next c.if-met-hi.true
+    merged_to_hi known c.args.range.lo c.args.range.hi (base.high + 1) left rest c.args.into.now c.loop-met.into c.loop-met.copied.filled was met.key met.pointer (drop met.walk.entries base.entries) (drop met.walk.records c.args.newest.now) next c.if-met-hi.true
 
 pub returns-then-filled-into-clause-copied : goal.returns-then-filled-into-clause-copied
 returns-then-filled-into-clause-copied c =
@@ -133,13 +133,13 @@ returns-then-filled-into-clause-copied c =
     let has = c.requires.leaf.4 in
     let known = known_of c.args.seat.now.me.0 in
     let at = c.loop-met.invariant in
-    let walk = c.loop-met.walk in
+    let walk = c.loop-met.copied.walk in
     let left = drop walk.entries base.entries in
     let rest = drop walk.records c.args.newest.now in
     let was = at.merged base leaf reads newest has in
     let met = c.in-Some.met in
     let next = met_behind was (c.in-Some.ensures.met c.args.row base c.row_place-start.ensures.start (still_reads at.same.2 reads) (at.count base reads)) in
-    merged_to_key known c.args.from c.args.hi (base.high + 1) left rest c.args.into.now c.loop-met.into c.loop-met.filled was met.key met.pointer (drop met.walk.entries base.entries) (drop met.walk.records c.args.newest.now) next
+    merged_to_key known c.args.range.lo c.args.range.hi (base.high + 1) left rest c.args.into.now c.loop-met.into c.loop-met.copied.filled was met.key met.pointer (drop met.walk.entries base.entries) (drop met.walk.records c.args.newest.now) next
 
 pub returns-then-filled-into-clause-further : goal.returns-then-filled-into-clause-further
 returns-then-filled-into-clause-further c =
@@ -150,14 +150,14 @@ returns-then-filled-into-clause-further c =
     let has = c.requires.leaf.4 in
     let known = known_of c.args.seat.now.me.0 in
     let at = c.loop-met.invariant in
-    let walk = c.loop-met.walk in
+    let walk = c.loop-met.copied.walk in
     let left = drop walk.entries base.entries in
     let rest = drop walk.records c.args.newest.now in
     let was = at.merged base leaf reads newest has in
     let met = c.in-Some.met in
     let next = met_behind was (c.in-Some.ensures.met c.args.row base c.row_place-start.ensures.start (still_reads at.same.2 reads) (at.count base reads)) in
     let full = c.if-filled-into.true in let some = c.requires.some_place in let long = c.loop-met.auto.into in
-    (key_is_behind known c.args.from c.args.hi (base.high + 1) left rest c.args.into.now c.loop-met.into c.loop-met.filled was met.key met.pointer (drop met.walk.entries base.entries) (drop met.walk.records c.args.newest.now) next (omega (arith, full, some, long)), c.if-met-hi.false)
+    (key_is_behind known c.args.range.lo c.args.range.hi (base.high + 1) left rest c.args.into.now c.loop-met.into c.loop-met.copied.filled was met.key met.pointer (drop met.walk.entries base.entries) (drop met.walk.records c.args.newest.now) next (omega (arith, full, some, long)), c.if-met-hi.false)
 
 pub offset_bounds-into-filled : goal.offset_bounds-into-filled
 offset_bounds-into-filled c =
@@ -167,7 +167,7 @@ offset_bounds-into-filled c =
     let count = was.count in
     let long = c.loop-met.auto.into in
     let room = c.if-filled-into.false in
-    let fit = c.loop-met.auto.filled-fits in omega (arith, fits, count, long, room, fit)
+    omega (arith, fits, count, long, room)
 
 pub bounds-into-filled : goal.bounds-into-filled
 bounds-into-filled c =
@@ -179,15 +179,15 @@ bounds-into-filled c =
     let room = c.if-filled-into.false in
     omega (arith, fits, count, long, room)
 
-pub overflow_add-filled : goal.overflow_add-filled
-overflow_add-filled c =
+pub overflow_add-copied : goal.overflow_add-copied
+overflow_add-copied c =
     let leaf = c.requires.leaf in
     let was = c.loop-met.invariant.merged leaf.0 leaf.1 leaf.2 leaf.3 leaf.4 in
     let fits = was.is_filled.fits in
     let count = was.count in
     let long = c.loop-met.auto.into in
     let room = c.if-filled-into.false in
-    let fit = c.loop-met.auto.filled-fits in omega (arith, fits, count, long, room, fit)
+    omega (arith, fits, count, long, room)
 
 pub returns-then-last-hi-clause-copied : goal.returns-then-last-hi-clause-copied
 returns-then-last-hi-clause-copied c =
@@ -198,7 +198,7 @@ returns-then-last-hi-clause-copied c =
     let has = c.requires.leaf.4 in
     let known = known_of c.args.seat.now.me.0 in
     let at = c.loop-met.invariant in
-    let walk = c.loop-met.walk in
+    let walk = c.loop-met.copied.walk in
     let left = drop walk.entries base.entries in
     let rest = drop walk.records c.args.newest.now in
     let was = at.merged base leaf reads newest has in
@@ -207,7 +207,7 @@ returns-then-last-hi-clause-copied c =
     let no_entry : left ≡ [] = drop_all walk.entries base.entries (omega (arith, count, none.0)) in
     let no_record : rest ≡ [] = drop_all walk.records c.args.newest.now (omega (arith, none.1)) in
     let last = high_read base (c.next_key.ensures.same.2 ∙ at.same.2) reads (λ content. c.load_word-last.ensures.word c.args.row content c.row_place-start.ensures.start) in
-    subst (IsCopiedTo known c.args.from c.args.hi (base.high + 1) left rest c.args.into.now c.loop-met.into c.loop-met.filled was) (ap (λ (n : ℕ). n + 1) (sym last)) (merged_to_end known c.args.from c.args.hi (base.high + 1) left rest c.args.into.now c.loop-met.into c.loop-met.filled was no_entry no_record)
+    subst (IsCopiedTo known c.args.range.lo c.args.range.hi (base.high + 1) left rest c.args.into.now c.loop-met.into c.loop-met.copied.filled was) (ap (λ (n : ℕ). n + 1) (sym last)) (merged_to_end known c.args.range.lo c.args.range.hi (base.high + 1) left rest c.args.into.now c.loop-met.into c.loop-met.copied.filled was no_entry no_record)
 
 pub returns-then-last-hi-clause-further : goal.returns-then-last-hi-clause-further
 returns-then-last-hi-clause-further c =
@@ -232,7 +232,7 @@ returns-else-last-hi-clause-copied c =
     let has = c.requires.leaf.4 in
     let known = known_of c.args.seat.now.me.0 in
     let at = c.loop-met.invariant in
-    let walk = c.loop-met.walk in
+    let walk = c.loop-met.copied.walk in
     let left = drop walk.entries base.entries in
     let rest = drop walk.records c.args.newest.now in
     let was = at.merged base leaf reads newest has in
@@ -242,4 +242,4 @@ returns-else-last-hi-clause-copied c =
     let no_record : rest ≡ [] = drop_all walk.records c.args.newest.now (omega (arith, none.1)) in
     let last = high_read base (c.next_key.ensures.same.2 ∙ at.same.2) reads (λ content. c.load_word-last.ensures.word c.args.row content c.row_place-start.ensures.start) in
     let test = c.if-last-hi.false in
-    merged_all known c.args.from c.args.hi (base.high + 1) left rest c.args.into.now c.loop-met.into c.loop-met.filled was no_entry no_record (omega (arith, last, test))
+    merged_all known c.args.range.lo c.args.range.hi (base.high + 1) left rest c.args.into.now c.loop-met.into c.loop-met.copied.filled was no_entry no_record (omega (arith, last, test))

@@ -8,11 +8,11 @@ use Rattle.blink_live.proofs.live.Live.copy_merged.Given as goal
 abbrev pub invariant-loop-met : goal.invariant-loop-met
 invariant-loop-met l = record {
   same : IsSameSeat l.fn.seat l.seat;
-  count : (base : PlainPage) → ReadsPage l.fn.seat.me l.row base → l.count ≡ length base.entries;
-  within : (l.walk.entries ≤ l.count) × (l.walk.records ≤ length l.newest);
-  merged : (base leaf : PlainPage) → ReadsPage l.fn.seat.me l.row base → AreNewest base leaf l.newest → HasStates (known_of l.fn.seat.me.0) l.from leaf
-      → HasMerged (known_of l.fn.seat.me.0) l.from l.hi (base.high + 1) (drop l.walk.entries base.entries) (drop l.walk.records l.newest) l.fn.into l.into l.filled;
+  count : (base : PlainPage) → ReadsPage l.fn.seat.me l.row base → l.parts.count ≡ length base.entries;
+  within : (l.copied.walk.entries ≤ l.parts.count) × (l.copied.walk.records ≤ length l.newest);
+  merged : (base leaf : PlainPage) → ReadsPage l.fn.seat.me l.row base → AreNewest base leaf l.newest → HasStates (known_of l.fn.seat.me.0) l.fn.range.lo leaf
+      → HasMerged (known_of l.fn.seat.me.0) l.fn.range.lo l.fn.range.hi (base.high + 1) (drop l.copied.walk.entries base.entries) (drop l.copied.walk.records l.newest) l.fn.into l.into l.copied.filled;
 }
 
 abbrev pub decreases-loop-met : goal.decreases-loop-met
-decreases-loop-met l = l.count + length l.newest - (l.walk.entries + l.walk.records)
+decreases-loop-met l = l.parts.count + length l.newest - (l.copied.walk.entries + l.copied.walk.records)

@@ -26,8 +26,8 @@ still_reads {me} {now} {row} {base} same reads = subst (λ (x : SeatState). Read
 few_left : {me now : SeatState} {row count : ℕ} (base : PlainPage) → now ≡ me → ReadsPage me row base → count ≤ length base.entries → count ≤ MAX_FAN
 few_left base same reads within = let few = reads.lawful.at_most_fan in omega (arith, within, few)
 
-pub copy_run_back-first-requires-clause-few : goal.copy_run_back-first-requires-clause-few
-copy_run_back-first-requires-clause-few c =
+pub copy_run_back-copied-requires-clause-few : goal.copy_run_back-copied-requires-clause-few
+copy_run_back-copied-requires-clause-few c =
     let reads = c.requires.leaf.2 in
     let count = c.load_word.ensures.word c.args.row (page_words c.requires.leaf.0) c.row_place-start.ensures.start reads.reads (omega arith) in
     let few = reads.lawful.at_most_fan in
@@ -36,24 +36,24 @@ copy_run_back-first-requires-clause-few c =
 pub loop-met-init : goal.loop-met-init
 loop-met-init c =
     let load = c.load_word.ensures in
-    let run = c.copy_run_back-first.ensures in
+    let run = c.copy_run_back-copied.ensures in
     let passed = run.passed in
     let count : (base : PlainPage) → ReadsPage c.args.seat.now.me c.args.row base → c.load_word.result ≡ length base.entries =
     λ base reads. load.word c.args.row (page_words base) c.row_place-start.ensures.start reads.reads (omega arith) in record {
       same = (run.same.0 ∙ load.same.0, run.same.1 ∙ load.same.1, run.same.2 ∙ load.same.2);
       entries = λ base reads. let all = count base reads in omega (arith, all, passed);
-      records = omega arith;
+      records = (let kept = run.records in omega (arith, kept));
       merged = λ base leaf reads newest has most.
           let many = count base reads in
           let all : take c.load_word.result base.entries ≡ base.entries = take_all c.load_word.result base.entries (omega (arith, many)) in
           let every : take (length c.args.newest.now) c.args.newest.now ≡ c.args.newest.now = take_all (length c.args.newest.now) c.args.newest.now (omega arith) in
           run.merged c.args.row base (known_of c.args.seat.now.me.0) (least_above leaf.floor) c.args.into.now c.row_place-start.ensures.start (still_reads load.same.2 reads) (omega (arith, many)) refl
-          (subst (λ (x : List (ℕ × ℕ) × List Record). HasMergedBack (known_of c.args.seat.now.me.0) c.args.lo c.args.from (least_above leaf.floor) x.0 x.1 c.args.into.now c.args.into.now 0) (λ i. (sym all i, sym every i))
-          (merged_none_back (known_of c.args.seat.now.me.0) c.args.lo c.args.from base leaf c.args.newest.now c.args.into.now reads.lawful newest has most c.requires.range));
+          (subst (λ (x : List (ℕ × ℕ) × List Record). HasMergedBack (known_of c.args.seat.now.me.0) c.args.range.lo c.args.range.hi (least_above leaf.floor) x.0 x.1 c.args.into.now c.args.into.now 0) (λ i. (sym all i, sym every i))
+          (merged_none_back (known_of c.args.seat.now.me.0) c.args.range.lo c.args.range.hi base leaf c.args.newest.now c.args.into.now reads.lawful newest has most c.requires.range));
     }
 
-pub loop-met-preserved-then-met-from : goal.loop-met-preserved-then-met-from
-loop-met-preserved-then-met-from c =
+pub loop-met-preserved-then-met-hi : goal.loop-met-preserved-then-met-hi
+loop-met-preserved-then-met-hi c =
     let same = c.loop-met.invariant.same in
     let key = c.key_before.ensures.same in
     let inside = c.in-Some.ensures.inside in record {
@@ -63,14 +63,14 @@ loop-met-preserved-then-met-from c =
       merged = λ base leaf reads newest has most.
           let known = known_of c.args.seat.now.me.0 in
           let at = c.loop-met.invariant in
-          let walk = c.loop-met.walk in
+          let walk = c.loop-met.copied.walk in
           let low = least_above leaf.floor in
           let left = take walk.entries base.entries in
           let rest = take walk.records c.args.newest.now in
           let was = at.merged base leaf reads newest has most in
           let met = c.in-Some.met in
           let previous = met_before was (c.in-Some.ensures.met c.args.row base c.row_place-start.ensures.start (still_reads at.same.2 reads) (at.entries base reads)) in
-          passed_above known c.args.lo c.args.from low left rest c.args.into.now c.loop-met.into c.loop-met.filled was met.key met.pointer (take met.walk.entries base.entries) (take met.walk.records c.args.newest.now) previous c.if-met-from.true c.if-met-lo.false;
+          passed_above known c.args.range.lo c.args.range.hi low left rest c.args.into.now c.loop-met.into c.loop-met.copied.filled was met.key met.pointer (take met.walk.entries base.entries) (take met.walk.records c.args.newest.now) previous c.if-met-hi.true c.if-met-lo.false;
     }
 
 pub loop-met-preserved-in_default-pointer : goal.loop-met-preserved-in_default-pointer
@@ -84,14 +84,14 @@ loop-met-preserved-in_default-pointer c =
       merged = λ base leaf reads newest has most.
           let known = known_of c.args.seat.now.me.0 in
           let at = c.loop-met.invariant in
-          let walk = c.loop-met.walk in
+          let walk = c.loop-met.copied.walk in
           let low = least_above leaf.floor in
           let left = take walk.entries base.entries in
           let rest = take walk.records c.args.newest.now in
           let was = at.merged base leaf reads newest has most in
           let met = c.in-Some.met in
           let previous = met_before was (c.in-Some.ensures.met c.args.row base c.row_place-start.ensures.start (still_reads at.same.2 reads) (at.entries base reads)) in
-          passed_none_back known c.args.lo c.args.from low left rest c.args.into.now c.loop-met.into c.loop-met.filled was met.key met.pointer (take met.walk.entries base.entries) (take met.walk.records c.args.newest.now) previous c.in_default-pointer.is c.if-met-lo.false;
+          passed_none_back known c.args.range.lo c.args.range.hi low left rest c.args.into.now c.loop-met.into c.loop-met.copied.filled was met.key met.pointer (take met.walk.entries base.entries) (take met.walk.records c.args.newest.now) previous c.in_default-pointer.is c.if-met-lo.false;
     }
 
 pub loop-met-preserved : goal.loop-met-preserved
@@ -99,15 +99,15 @@ loop-met-preserved c =
     let same = c.loop-met.invariant.same in
     let key = c.key_before.ensures.same in
     let inside = c.in-Some.ensures.inside in
-    let run = c.copy_run_back-run.ensures in
+    let run = c.copy_run_back-copied-in-Some.ensures in
     let passed = run.passed in record {
       same = (run.same.0 ∙ key.0 ∙ same.0, run.same.1 ∙ key.1 ∙ same.1, run.same.2 ∙ key.2 ∙ same.2);
       entries = λ base reads. let within = c.loop-met.invariant.entries base reads in let less = inside.0 in omega (arith, within, less, passed);
-      records = (let within = c.loop-met.invariant.records in let less = inside.1 in omega (arith, within, less));
+      records = (let within = c.loop-met.invariant.records in let less = inside.1 in let kept = run.records in omega (arith, within, less, kept));
       merged = λ base leaf reads newest has most.
           let known = known_of c.args.seat.now.me.0 in
           let at = c.loop-met.invariant in
-          let walk = c.loop-met.walk in
+          let walk = c.loop-met.copied.walk in
           let low = least_above leaf.floor in
           let left = take walk.entries base.entries in
           let rest = take walk.records c.args.newest.now in
@@ -115,10 +115,10 @@ loop-met-preserved c =
           let met = c.in-Some.met in
           let previous = met_before was (c.in-Some.ensures.met c.args.row base c.row_place-start.ensures.start (still_reads at.same.2 reads) (at.entries base reads)) in
           let fits = was.is_filled.fits in let turned = length-reverse was.entries in let count = was.count in let long = c.loop-met.auto.into in let room = c.if-filled-into.false in
-          let first = c.copy_run_back-first.auto.into in let set = length-set c.loop-met.into c.loop-met.filled (entry met.key c.in-Some-pointer.pointer) in
+          let first = c.copy_run_back-copied.auto.into in let set = length-set c.loop-met.into c.loop-met.copied.filled (entry met.key c.in-Some-pointer.pointer) in
           let within = at.entries base reads in let less = inside.0 in
           run.merged c.args.row base known low c.args.into.now c.row_place-start.ensures.start (still_reads (key.2 ∙ same.2) reads) (omega (arith, within, less)) (omega (arith, long, first, set))
-          (merged_one_back known c.args.lo c.args.from low left rest c.args.into.now c.loop-met.into c.loop-met.filled was met.key met.pointer (take met.walk.entries base.entries) (take met.walk.records c.args.newest.now) previous c.in-Some-pointer.pointer c.in-Some-pointer.is c.if-met-from.false c.if-met-lo.false (omega (arith, fits, turned, count, long, room)));
+          (merged_one_back known c.args.range.lo c.args.range.hi low left rest c.args.into.now c.loop-met.into c.loop-met.copied.filled was met.key met.pointer (take met.walk.entries base.entries) (take met.walk.records c.args.newest.now) previous c.in-Some-pointer.pointer c.in-Some-pointer.is c.if-met-hi.false c.if-met-lo.false (omega (arith, fits, turned, count, long, room)));
     }
 
 pub returns-then-met-lo-clause-copied : goal.returns-then-met-lo-clause-copied
@@ -131,14 +131,14 @@ returns-then-met-lo-clause-copied c =
     let most = c.requires.leaf.5 in
     let known = known_of c.args.seat.now.me.0 in
     let at = c.loop-met.invariant in
-    let walk = c.loop-met.walk in
+    let walk = c.loop-met.copied.walk in
     let low = least_above leaf.floor in
     let left = take walk.entries base.entries in
     let rest = take walk.records c.args.newest.now in
     let was = at.merged base leaf reads newest has most in
     let met = c.in-Some.met in
     let previous = met_before was (c.in-Some.ensures.met c.args.row base c.row_place-start.ensures.start (still_reads at.same.2 reads) (at.entries base reads)) in
-    merged_to_lo known c.args.lo c.args.from low left rest c.args.into.now c.loop-met.into c.loop-met.filled was met.key met.pointer (take met.walk.entries base.entries) (take met.walk.records c.args.newest.now) previous c.if-met-lo.true
+    merged_to_lo known c.args.range.lo c.args.range.hi low left rest c.args.into.now c.loop-met.into c.loop-met.copied.filled was met.key met.pointer (take met.walk.entries base.entries) (take met.walk.records c.args.newest.now) previous c.if-met-lo.true
 
 pub returns-then-filled-into-clause-copied : goal.returns-then-filled-into-clause-copied
 returns-then-filled-into-clause-copied c =
@@ -150,14 +150,14 @@ returns-then-filled-into-clause-copied c =
     let most = c.requires.leaf.5 in
     let known = known_of c.args.seat.now.me.0 in
     let at = c.loop-met.invariant in
-    let walk = c.loop-met.walk in
+    let walk = c.loop-met.copied.walk in
     let low = least_above leaf.floor in
     let left = take walk.entries base.entries in
     let rest = take walk.records c.args.newest.now in
     let was = at.merged base leaf reads newest has most in
     let met = c.in-Some.met in
     let previous = met_before was (c.in-Some.ensures.met c.args.row base c.row_place-start.ensures.start (still_reads at.same.2 reads) (at.entries base reads)) in
-    merged_behind_key known c.args.lo c.args.from low left rest c.args.into.now c.loop-met.into c.loop-met.filled was met.key met.pointer (take met.walk.entries base.entries) (take met.walk.records c.args.newest.now) previous
+    merged_behind_key known c.args.range.lo c.args.range.hi low left rest c.args.into.now c.loop-met.into c.loop-met.copied.filled was met.key met.pointer (take met.walk.entries base.entries) (take met.walk.records c.args.newest.now) previous
 
 pub returns-then-filled-into-clause-further : goal.returns-then-filled-into-clause-further
 returns-then-filled-into-clause-further c =
@@ -169,7 +169,7 @@ returns-then-filled-into-clause-further c =
     let most = c.requires.leaf.5 in
     let known = known_of c.args.seat.now.me.0 in
     let at = c.loop-met.invariant in
-    let walk = c.loop-met.walk in
+    let walk = c.loop-met.copied.walk in
     let low = least_above leaf.floor in
     let left = take walk.entries base.entries in
     let rest = take walk.records c.args.newest.now in
@@ -177,7 +177,7 @@ returns-then-filled-into-clause-further c =
     let met = c.in-Some.met in
     let previous = met_before was (c.in-Some.ensures.met c.args.row base c.row_place-start.ensures.start (still_reads at.same.2 reads) (at.entries base reads)) in
     let full = c.if-filled-into.true in let some = c.requires.some_place in let long = c.loop-met.auto.into in
-    (c.if-met-lo.false, key_is_before known c.args.lo c.args.from low left rest c.args.into.now c.loop-met.into c.loop-met.filled was met.key met.pointer (take met.walk.entries base.entries) (take met.walk.records c.args.newest.now) previous (omega (arith, full, some, long)))
+    (c.if-met-lo.false, key_is_before known c.args.range.lo c.args.range.hi low left rest c.args.into.now c.loop-met.into c.loop-met.copied.filled was met.key met.pointer (take met.walk.entries base.entries) (take met.walk.records c.args.newest.now) previous (omega (arith, full, some, long)))
 
 pub offset_bounds-into-filled : goal.offset_bounds-into-filled
 offset_bounds-into-filled c =
@@ -188,7 +188,7 @@ offset_bounds-into-filled c =
     let count = was.count in
     let long = c.loop-met.auto.into in
     let room = c.if-filled-into.false in
-    let fit = c.loop-met.auto.filled-fits in omega (arith, fits, turned, count, long, room, fit)
+    omega (arith, fits, turned, count, long, room)
 
 pub bounds-into-filled : goal.bounds-into-filled
 bounds-into-filled c =
@@ -201,8 +201,8 @@ bounds-into-filled c =
     let room = c.if-filled-into.false in
     omega (arith, fits, turned, count, long, room)
 
-pub overflow_add-filled : goal.overflow_add-filled
-overflow_add-filled c =
+pub overflow_add-copied : goal.overflow_add-copied
+overflow_add-copied c =
     let leaf = c.requires.leaf in
     let was = c.loop-met.invariant.merged leaf.0 leaf.1 leaf.2 leaf.3 leaf.4 leaf.5 in
     let fits = was.is_filled.fits in
@@ -210,7 +210,7 @@ overflow_add-filled c =
     let count = was.count in
     let long = c.loop-met.auto.into in
     let room = c.if-filled-into.false in
-    let fit = c.loop-met.auto.filled-fits in omega (arith, fits, turned, count, long, room, fit)
+    omega (arith, fits, turned, count, long, room)
 
 pub returns-clause-copied : goal.returns-clause-copied
 returns-clause-copied c =
@@ -222,7 +222,7 @@ returns-clause-copied c =
     let most = c.requires.leaf.5 in
     let known = known_of c.args.seat.now.me.0 in
     let at = c.loop-met.invariant in
-    let walk = c.loop-met.walk in
+    let walk = c.loop-met.copied.walk in
     let low = least_above leaf.floor in
     let left = take walk.entries base.entries in
     let rest = take walk.records c.args.newest.now in
@@ -230,6 +230,6 @@ returns-clause-copied c =
     let none = c.in_default.ensures.none in
     let no_entry : left ≡ [] = ap (λ (n : ℕ). take n base.entries) none.0 in
     let no_record : rest ≡ [] = ap (λ (n : ℕ). take n c.args.newest.now) none.1 in
-    let floor = c.load_floor.ensures.floor c.args.row base c.row_place-start.ensures.start (still_reads (c.key_before.ensures.same.2 ∙ at.same.2) reads) in
-    let begins : low ≡ least_above c.load_floor.result = ap least_above (newest.same_floor ∙ sym floor) in
-    merged_to_floor known c.args.lo c.args.from low left rest c.args.into.now c.loop-met.into c.loop-met.filled was no_entry no_record c.load_floor.result c.not_below.result begins c.not_below.ensures.some c.not_below.ensures.none
+    let floor = c.load_floor-floor.ensures.floor c.args.row base c.row_place-start.ensures.start (still_reads (c.key_before.ensures.same.2 ∙ at.same.2) reads) in
+    let begins : low ≡ least_above c.load_floor-floor.result = ap least_above (newest.same_floor ∙ sym floor) in
+    merged_to_floor known c.args.range.lo c.args.range.hi low left rest c.args.into.now c.loop-met.into c.loop-met.copied.filled was no_entry no_record c.load_floor-floor.result c.not_below-next.result begins c.not_below-next.ensures.some c.not_below-next.ensures.none

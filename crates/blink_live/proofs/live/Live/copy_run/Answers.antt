@@ -30,8 +30,8 @@ returns-then-key-bound-clause-same c =
 pub returns-then-key-bound-clause-merged : goal.returns-then-key-bound-clause-merged
 returns-then-key-bound-clause-merged c = c.loop-place.invariant.merged
 
-pub loop-place-preserved-then-key-from : goal.loop-place-preserved-then-key-from
-loop-place-preserved-then-key-from c =
+pub loop-place-preserved-then-key-lo : goal.loop-place-preserved-then-key-lo
+loop-place-preserved-then-key-lo c =
     let same = c.loop-place.invariant.same in
     let load = c.load_word-key.ensures in
     let place : ℕ = c.loop-place.place in
@@ -40,12 +40,12 @@ loop-place-preserved-then-key-from c =
       same = (load.same.0 ∙ same.0, load.same.1 ∙ same.1, load.same.2 ∙ same.2);
       merged = λ row base known stop old begins reads count as_long was.
           let before = c.loop-place.invariant.merged row base known stop old begins reads count as_long was in
-          let rest = drop c.args.walk.records c.args.newest.now in
+          let rest = drop c.args.copied.walk.records c.args.parts.now.newest.now in
           let inside : place < length base.entries = omega (arith, count, test) in
           let key : c.load_word-key.result ≡ (get_or base.entries place (0, 0)).0 = load.word row (page_words base) begins (ap (λ (x : SeatState). x.0.reads) same.2 ∙ reads.reads) (key_inside base place inside) ∙ key_word base place _ refl in
           let next = meets_in_run base.entries rest place c.load_word-key.result inside key (λ r others is. let its = c.bound_at-bound.ensures r others is in omega (arith, its, bound)) in
-          passed_below known c.args.from c.args.hi stop (drop place base.entries) rest old c.loop-place.into c.loop-place.filled before c.load_word-key.result (Some (get_or base.entries place (0, 0)).1) (drop (place + 1) base.entries) rest
-          (goes_on known c.args.from stop before.cursor before.merging next) c.if-key-from.true c.if-key-hi.false;
+          passed_below known c.args.range.lo c.args.range.hi stop (drop place base.entries) rest old c.loop-place.into c.loop-place.filled before c.load_word-key.result (Some (get_or base.entries place (0, 0)).1) (drop (place + 1) base.entries) rest
+          (goes_on known c.args.range.lo stop before.cursor before.merging next) c.if-key-lo.true c.if-key-hi.false;
     }
 
 pub loop-place-preserved : goal.loop-place-preserved
@@ -59,15 +59,15 @@ loop-place-preserved c =
       same = (second.same.0 ∙ load.same.0 ∙ same.0, second.same.1 ∙ load.same.1 ∙ same.1, second.same.2 ∙ load.same.2 ∙ same.2);
       merged = λ row base known stop old begins reads count as_long was.
           let before = c.loop-place.invariant.merged row base known stop old begins reads count as_long was in
-          let rest = drop c.args.walk.records c.args.newest.now in
+          let rest = drop c.args.copied.walk.records c.args.parts.now.newest.now in
           let inside : place < length base.entries = omega (arith, count, test) in
           let here = ap (λ (x : SeatState). x.0.reads) same.2 ∙ reads.reads in
           let key : c.load_word-key.result ≡ (get_or base.entries place (0, 0)).0 = load.word row (page_words base) begins here (key_inside base place inside) ∙ key_word base place _ refl in
           let pointer : c.load_word-pointer.result ≡ (get_or base.entries place (0, 0)).1 = second.word row (page_words base) begins (ap (λ (x : SeatState). x.0.reads) load.same.2 ∙ here) (value_inside base place inside) ∙ value_word base place _ refl in
           let next = meets_in_run base.entries rest place c.load_word-key.result inside key (λ r others is. let its = c.bound_at-bound.ensures r others is in omega (arith, its, bound)) in
           let fits = before.is_filled.fits in let many = before.count in let long = c.loop-place.auto.into in let room = c.if-filled-into.false in
-          merged_one known c.args.from c.args.hi stop (drop place base.entries) rest old c.loop-place.into c.loop-place.filled before c.load_word-key.result (Some (get_or base.entries place (0, 0)).1) (drop (place + 1) base.entries) rest
-          (goes_on known c.args.from stop before.cursor before.merging next) c.load_word-pointer.result (ap (λ (p : ℕ). Some p) (sym pointer)) c.if-key-from.false c.if-key-hi.false (omega (arith, long, room, as_long));
+          merged_one known c.args.range.lo c.args.range.hi stop (drop place base.entries) rest old c.loop-place.into c.loop-place.filled before c.load_word-key.result (Some (get_or base.entries place (0, 0)).1) (drop (place + 1) base.entries) rest
+          (goes_on known c.args.range.lo stop before.cursor before.merging next) c.load_word-pointer.result (ap (λ (p : ℕ). Some p) (sym pointer)) c.if-key-lo.false c.if-key-hi.false (omega (arith, long, room, as_long));
     }
 
 pub returns-clause-same : goal.returns-clause-same
@@ -77,6 +77,6 @@ pub returns-clause-merged : goal.returns-clause-merged
 returns-clause-merged c row base known stop old begins reads count as_long was =
     let test = c.loop-place-test.false in
     let few = c.requires.few.1 in
-    let ends : c.loop-place.place ≡ c.args.count = omega (arith, test, few, c.loop-place.auto) in
-    subst (λ (n : ℕ). HasMerged known c.args.from c.args.hi stop (drop n base.entries) (drop c.args.walk.records c.args.newest.now) old c.loop-place.into c.loop-place.filled) ends
+    let ends : c.loop-place.place ≡ c.args.parts.now.count = omega (arith, test, few, c.loop-place.auto) in
+    subst (λ (n : ℕ). HasMerged known c.args.range.lo c.args.range.hi stop (drop n base.entries) (drop c.args.copied.walk.records c.args.parts.now.newest.now) old c.loop-place.into c.loop-place.filled) ends
     (c.loop-place.invariant.merged row base known stop old begins reads count as_long was)

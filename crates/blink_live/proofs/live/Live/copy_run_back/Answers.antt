@@ -31,11 +31,11 @@ pub returns-then-key-bound-clause-merged : goal.returns-then-key-bound-clause-me
 returns-then-key-bound-clause-merged c row base known low old begins reads count as_long was =
     let reached : ℕ = c.loop-place.place in
     let step : reached ≡ reached - 1 + 1 = omega arith in
-    subst (λ (n : ℕ). HasMergedBack known c.args.lo c.args.from low (take n base.entries) (take c.args.walk.records c.args.newest.now) old c.loop-place.into c.loop-place.filled) step
+    subst (λ (n : ℕ). HasMergedBack known c.args.range.lo c.args.range.hi low (take n base.entries) (take c.args.copied.walk.records c.args.parts.now.newest.now) old c.loop-place.into c.loop-place.filled) step
     (c.loop-place.invariant.merged row base known low old begins reads count as_long was)
 
-pub loop-place-preserved-then-key-from : goal.loop-place-preserved-then-key-from
-loop-place-preserved-then-key-from c =
+pub loop-place-preserved-then-key-hi : goal.loop-place-preserved-then-key-hi
+loop-place-preserved-then-key-hi c =
     let same = c.loop-place.invariant.same in
     let load = c.load_word-key.ensures in
     let reached : ℕ = c.loop-place.place in
@@ -48,12 +48,12 @@ loop-place-preserved-then-key-from c =
       same = (load.same.0 ∙ same.0, load.same.1 ∙ same.1, load.same.2 ∙ same.2);
       merged = λ row base known low old begins reads count as_long was.
           let before = c.loop-place.invariant.merged row base known low old begins reads count as_long was in
-          let rest = take c.args.walk.records c.args.newest.now in
+          let rest = take c.args.copied.walk.records c.args.parts.now.newest.now in
           let inside : place < length base.entries = omega (arith, count, within, step) in
           let key : c.load_word-key.result ≡ (get_or base.entries place (0, 0)).0 = load.word row (page_words base) begins (ap (λ (x : SeatState). x.0.reads) same.2 ∙ reads.reads) (key_inside base place inside) ∙ key_word base place _ refl in
           let next = meets_in_run_back base.entries rest reached place c.load_word-key.result step inside key (c.bound_before-bound.ensures c.load_word-key.result bound) in
-          passed_above known c.args.lo c.args.from low (take reached base.entries) rest old c.loop-place.into c.loop-place.filled before c.load_word-key.result (Some (get_or base.entries place (0, 0)).1) (take place base.entries) rest
-          (goes_back known low c.args.from before.cursor before.merging next) c.if-key-from.true c.if-key-lo.false;
+          passed_above known c.args.range.lo c.args.range.hi low (take reached base.entries) rest old c.loop-place.into c.loop-place.filled before c.load_word-key.result (Some (get_or base.entries place (0, 0)).1) (take place base.entries) rest
+          (goes_back known low c.args.range.hi before.cursor before.merging next) c.if-key-hi.true c.if-key-lo.false;
     }
 
 pub loop-place-preserved : goal.loop-place-preserved
@@ -71,15 +71,15 @@ loop-place-preserved c =
       same = (second.same.0 ∙ load.same.0 ∙ same.0, second.same.1 ∙ load.same.1 ∙ same.1, second.same.2 ∙ load.same.2 ∙ same.2);
       merged = λ row base known low old begins reads count as_long was.
           let before = c.loop-place.invariant.merged row base known low old begins reads count as_long was in
-          let rest = take c.args.walk.records c.args.newest.now in
+          let rest = take c.args.copied.walk.records c.args.parts.now.newest.now in
           let inside : place < length base.entries = omega (arith, count, within, step) in
           let here = ap (λ (x : SeatState). x.0.reads) same.2 ∙ reads.reads in
           let key : c.load_word-key.result ≡ (get_or base.entries place (0, 0)).0 = load.word row (page_words base) begins here (key_inside base place inside) ∙ key_word base place _ refl in
           let pointer : c.load_word-pointer.result ≡ (get_or base.entries place (0, 0)).1 = second.word row (page_words base) begins (ap (λ (x : SeatState). x.0.reads) load.same.2 ∙ here) (value_inside base place inside) ∙ value_word base place _ refl in
           let next = meets_in_run_back base.entries rest reached place c.load_word-key.result step inside key (c.bound_before-bound.ensures c.load_word-key.result bound) in
           let fits = before.is_filled.fits in let many = before.count in let long = c.loop-place.auto.into in let room = c.if-filled-into.false in
-          merged_one_back known c.args.lo c.args.from low (take reached base.entries) rest old c.loop-place.into c.loop-place.filled before c.load_word-key.result (Some (get_or base.entries place (0, 0)).1) (take place base.entries) rest
-          (goes_back known low c.args.from before.cursor before.merging next) c.load_word-pointer.result (ap (λ (p : ℕ). Some p) (sym pointer)) c.if-key-from.false c.if-key-lo.false (omega (arith, long, room, as_long));
+          merged_one_back known c.args.range.lo c.args.range.hi low (take reached base.entries) rest old c.loop-place.into c.loop-place.filled before c.load_word-key.result (Some (get_or base.entries place (0, 0)).1) (take place base.entries) rest
+          (goes_back known low c.args.range.hi before.cursor before.merging next) c.load_word-pointer.result (ap (λ (p : ℕ). Some p) (sym pointer)) c.if-key-hi.false c.if-key-lo.false (omega (arith, long, room, as_long));
     }
 
 pub returns-clause-same : goal.returns-clause-same
@@ -88,5 +88,5 @@ returns-clause-same c = c.loop-place.invariant.same
 pub returns-clause-merged : goal.returns-clause-merged
 returns-clause-merged c row base known low old begins reads count as_long was =
     let ends : c.loop-place.place ≡ 0 = omega (arith, c.loop-place-test.false) in
-    subst (λ (n : ℕ). HasMergedBack known c.args.lo c.args.from low (take n base.entries) (take c.args.walk.records c.args.newest.now) old c.loop-place.into c.loop-place.filled) ends
+    subst (λ (n : ℕ). HasMergedBack known c.args.range.lo c.args.range.hi low (take n base.entries) (take c.args.copied.walk.records c.args.parts.now.newest.now) old c.loop-place.into c.loop-place.filled) ends
     (c.loop-place.invariant.merged row base known low old begins reads count as_long was)
