@@ -20,8 +20,8 @@ come_out live op old first seat room (Ended answer) mark marked same came = (cam
 come_out live op old first seat room (Rests resting) mark marked same came = (record { first = first; mark = mark; marked = marked; same_number = same; under_way = came.0 }, came.1)
 
 -- and of one that was under way
-pub comes_on : {live : Live} {op : Op} {old : Member} {before seat : Seat ℕ View} {m : PlainMachine} {was room : CallRoom} {changed : Changed} → (out : HasSetOut live op old before m was) → HasCome live op out.first seat room changed → HasComeOut live op old seat room changed
-comes_on {live} {op} {old} {before} {seat} {m} {was} {room} {changed} out came = come_out live op old out.first seat room changed out.mark out.marked out.same_number came
+pub comes_on : {live : Live} {op : Op} {old : Member} {before : Seat ℕ View} {m : PlainMachine} {was : CallRoom} → (out : HasSetOut live op old before m was) → (seat : Seat ℕ View) (room : CallRoom) (changed : Changed) → HasCome live op out.first seat room changed → HasComeOut live op old seat room changed
+comes_on {live} {op} {old} {before} {m} {was} out seat room changed came = come_out live op old out.first seat room changed out.mark out.marked out.same_number came
 
 -- a member with the room for it can begin
 pub can_begin : (op : Op) (old : Member) (mark : ℕ) (me : SeatState) → HasRoom op old → 2 ≤ mark → me ≡ (is_busy old.seat.me.0 mark, old.seat.me.1) → CanBegin me.0 op

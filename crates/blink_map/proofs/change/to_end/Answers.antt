@@ -12,7 +12,7 @@ resume-rested-requires g c =
 
 pub loop-init : goal.loop-init
 loop-init g c =
-    record { turns = (tt, tt); came = λ op old is. comes_on is (c.resume-rested.ensures op is.first is.under_way) }
+    record { turns = (tt, tt); came = λ op old is. comes_on is c.resume-rested.new.seat c.resume-rested.new.room c.resume-rested.result (c.resume-rested.ensures op is.first is.under_way) }
 
 pub returns-in-Ended : goal.returns-in-Ended
 returns-in-Ended g c =
@@ -50,5 +50,5 @@ loop-preserved g c =
           let out = subst (HasComeOut c.args.live.now op old c.loop.seat c.loop.room) c.in-Rests.is (c.loop.invariant.came op old is) in
           let rest = comes_to_rest out.0 c.mark_place.new.seat c.mark_place.ensures.same c.mark_place.ensures.marked in
           let on = goes_on_from_rest rest c.next_mark.result c.next_mark.ensures.works c.mark_place-in-loop.new.seat c.mark_place-in-loop.ensures.same c.mark_place-in-loop.ensures.marked in
-          comes_on on (c.resume-rested-in-loop.ensures op on.first on.under_way);
+          comes_on on c.resume-rested-in-loop.new.seat c.resume-rested-in-loop.new.room c.resume-rested-in-loop.result (c.resume-rested-in-loop.ensures op on.first on.under_way);
     }

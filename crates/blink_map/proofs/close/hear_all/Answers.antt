@@ -1,7 +1,6 @@
 use Rattle.std.proofs.Common.{◌≡◌, ◌<◌, ◌+◌, List, [], ◌∷◌, ◌++◌, length, get_or, length-append, refl, sym, ap, ◌∙◌, subst, append_assoc, arith}
 use Rattle.blink_map.specs.declared.map.Receipt.{Receipt}
 use Rattle.blink_map.specs.Closing.{HasHeard}
-use Rattle.blink_live.specs.declared.live.Live.{Live}
 use Rattle.blink_map.proofs.AllSettled.{one_more_heard}
 use Rattle.blink_map.proofs.close.hear_all.Goals as goal
 

@@ -1,4 +1,4 @@
-use Rattle.std.proofs.Common.{◌-◌, ◌<◌, ◌≤◌, ⊎_elim, inl, inr, arith}
+use Rattle.std.proofs.Common.{◌-◌, ⊎_elim, inl, inr, arith}
 use Rattle.blink_live.specs.{IsWithin, length_of}
 use Rattle.blink_map.proofs.PartsOfThePool.{part_of_all, part_of_fewer}
 use Rattle.blink_map.proofs.pool.draw_pages.Goals as goal

@@ -2,7 +2,7 @@ use Rattle.std.proofs.Common.{sym, subst, refl}
 use Rattle.std.specs.List.Sorted.{IsStrictlyIncreasing}
 use Rattle.blink_batch.specs.declared.Op.{Op}
 use Rattle.blink_batch.specs.{key_of}
-use Rattle.blink_live.specs.Pendings.{HasRest, IsWaiting, op_of, pass_of}
+use Rattle.blink_live.specs.Pendings.{HasRest, op_of, pass_of}
 use Rattle.blink_live.specs.Straight.{HasCome}
 use Rattle.blink_live.specs.Updating.{IsUnderWay}
 use Rattle.blink_live.proofs.changed.PassesComeBack.{answers_by_share, is_changed, is_whole, knows_its_keys, own_of_may}

@@ -1,4 +1,4 @@
-use Rattle.std.proofs.Common.{◌∙◌, sym, subst}
+use Rattle.std.proofs.Common.{sym, subst}
 use Rattle.blink_machine.specs.{PlainMachine}
 use Rattle.blink_live.specs.Pendings.{IsWaiting}
 use Rattle.blink_live.specs.Updating.{IsUnderWay}

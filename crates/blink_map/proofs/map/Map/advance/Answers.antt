@@ -27,7 +27,7 @@ end-member-requires c =
     let live = c.args.self.now.live in
     let its = its_member live (session_of pending).member its_own.drawn its_own.its_own.member its_own.has_drawn in
     let work = c.wake.ensures.at_work (op_of pending) its_own.drawn its its_own.at_rest in
-    let came = comes_on work.set_out (c.resume.ensures (op_of pending) work.set_out.first work.set_out.under_way) in
+    let came = comes_on work.set_out c.resume.new.seat c.resume.new.room c.resume.result (c.resume.ensures (op_of pending) work.set_out.first work.set_out.under_way) in
     let ended = subst (HasComeOut live (op_of pending) its_own.drawn c.resume.new.seat c.resume.new.room) c.in-Ended.is came in
     record { ended = (op_of pending, its_own.drawn, c.in-Ended.answer, its, ended, record { rows = work.beside.rows; pages = work.beside.pages; place = work.beside.place }) }
 
@@ -38,7 +38,7 @@ recycle-requires c =
     let live = c.args.self.now.live in
     let its = its_member live (session_of pending).member its_own.drawn its_own.its_own.member its_own.has_drawn in
     let work = c.wake.ensures.at_work (op_of pending) its_own.drawn its its_own.at_rest in
-    let came = comes_on work.set_out (c.resume.ensures (op_of pending) work.set_out.first work.set_out.under_way) in
+    let came = comes_on work.set_out c.resume.new.seat c.resume.new.room c.resume.result (c.resume.ensures (op_of pending) work.set_out.first work.set_out.under_way) in
     let ended = subst (HasComeOut live (op_of pending) its_own.drawn c.resume.new.seat c.resume.new.room) c.in-Ended.is came in
     let changed = c.end-member.ensures (op_of pending) its_own.drawn c.in-Ended.answer its ended (record { rows = work.beside.rows; pages = work.beside.pages; place = work.beside.place }) in
     record { its_own = record { same_table = changed.same_member.same_table ∙ its.same_table; same_plan = changed.same_member.same_plan ∙ its.same_plan } }
@@ -50,7 +50,7 @@ returns-in-Ended-clause-answered c =
     let live = c.args.self.now.live in
     let its = its_member live (session_of pending).member its_own.drawn its_own.its_own.member its_own.has_drawn in
     let work = c.wake.ensures.at_work (op_of pending) its_own.drawn its its_own.at_rest in
-    let came = comes_on work.set_out (c.resume.ensures (op_of pending) work.set_out.first work.set_out.under_way) in
+    let came = comes_on work.set_out c.resume.new.seat c.resume.new.room c.resume.result (c.resume.ensures (op_of pending) work.set_out.first work.set_out.under_way) in
     let ended = subst (HasComeOut live (op_of pending) its_own.drawn c.resume.new.seat c.resume.new.room) c.in-Ended.is came in
     let changed = c.end-member.ensures (op_of pending) its_own.drawn c.in-Ended.answer its ended (record { rows = work.beside.rows; pages = work.beside.pages; place = work.beside.place }) in
     let last = changed_then live (op_of pending) its_own.drawn c.end-member.result c.recycle.new.self c.in-Ended.answer changed c.recycle.ensures.drawn c.recycle.ensures.rows c.recycle.ensures.pages in
@@ -63,7 +63,7 @@ rest-requires c =
     let live = c.args.self.now.live in
     let its = its_member live (session_of pending).member its_own.drawn its_own.its_own.member its_own.has_drawn in
     let work = c.wake.ensures.at_work (op_of pending) its_own.drawn its its_own.at_rest in
-    let came = comes_on work.set_out (c.resume.ensures (op_of pending) work.set_out.first work.set_out.under_way) in
+    let came = comes_on work.set_out c.resume.new.seat c.resume.new.room c.resume.result (c.resume.ensures (op_of pending) work.set_out.first work.set_out.under_way) in
     let rests = subst (HasComeOut live (op_of pending) its_own.drawn c.resume.new.seat c.resume.new.room) c.in-Rests.is came in
     record { at_work = (op_of pending, its_own.drawn, its, record { set_out = rests.0; beside = record { rows = work.beside.rows; pages = work.beside.pages; place = work.beside.place } }) }
 
@@ -74,7 +74,7 @@ returns-in-Rests-clause-goes_on c =
     let live = c.args.self.now.live in
     let its = its_member live (session_of pending).member its_own.drawn its_own.its_own.member its_own.has_drawn in
     let work = c.wake.ensures.at_work (op_of pending) its_own.drawn its its_own.at_rest in
-    let came = comes_on work.set_out (c.resume.ensures (op_of pending) work.set_out.first work.set_out.under_way) in
+    let came = comes_on work.set_out c.resume.new.seat c.resume.new.room c.resume.result (c.resume.ensures (op_of pending) work.set_out.first work.set_out.under_way) in
     let rests = subst (HasComeOut live (op_of pending) its_own.drawn c.resume.new.seat c.resume.new.room) c.in-Rests.is came in
     let then = c.rest.ensures.at_rest (op_of pending) its_own.drawn its (record { set_out = rests.0; beside = record { rows = work.beside.rows; pages = work.beside.pages; place = work.beside.place } }) in
     has_begun c.args.self.now (op_of pending) (session_of pending) its_own.drawn _ its_own.its_own refl its_own.has_drawn then (subst IsWaiting (sym c.rest.ensures.machine) rests.1)
@@ -86,6 +86,6 @@ returns-in-Rests-clause-waits c =
     let live = c.args.self.now.live in
     let its = its_member live (session_of pending).member its_own.drawn its_own.its_own.member its_own.has_drawn in
     let work = c.wake.ensures.at_work (op_of pending) its_own.drawn its its_own.at_rest in
-    let came = comes_on work.set_out (c.resume.ensures (op_of pending) work.set_out.first work.set_out.under_way) in
+    let came = comes_on work.set_out c.resume.new.seat c.resume.new.room c.resume.result (c.resume.ensures (op_of pending) work.set_out.first work.set_out.under_way) in
     let rests = subst (HasComeOut live (op_of pending) its_own.drawn c.resume.new.seat c.resume.new.room) c.in-Rests.is came in
     subst IsWaiting (sym c.rest.ensures.machine) rests.1

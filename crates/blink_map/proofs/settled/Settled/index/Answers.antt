@@ -8,7 +8,6 @@ use Rattle.blink_machine.specs.{IsMapOf}
 use Rattle.blink_rows.specs.{PlainCounts}
 use Rattle.blink_store.specs.{PlainStore}
 use Rattle.blink_live.specs.declared.view.Change.{Change}
-use Rattle.blink_live.specs.declared.view.Plan.{Plan}
 use Rattle.blink_live.specs.{KeepsTree, after, place_word}
 use Rattle.blink_live.proofs.Offered.{AreIdle, map_is, rests_at_end}
 use Rattle.blink_map.specs.declared.settled.Settled.{Settled}
