@@ -10,7 +10,7 @@ mod pack;
 mod scan;
 
 pub use back::ScanBack;
-pub use count::entry_count;
+pub use count::{LeafCounts, leaf_counts};
 pub use down::{leaf_for, leaf_number};
 pub use dump::{OrDash, push_entries, tree_text};
 pub use pack::{add_entry, first_leaf, pages_needed, tree_over};

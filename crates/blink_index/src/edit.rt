@@ -17,13 +17,18 @@ use blink_operation::Op;
 use blink_page::{MAX_NEW_PAGES_PER_INSERT, Put};
 use blink_rest::Rest;
 
-/// Removes the key's entry from its leaf, and returns its pointer. The call takes no memory.
-pub(crate) fn take(rest: &mut Rest, key: u64) -> Option<u64>
+/// Removes the key's entry from its leaf, and returns its pointer. The call takes no memory. It adds one to `emptied`, if the leaf
+/// had no other entry.
+pub(crate) fn take(rest: &mut Rest, key: u64, emptied: &mut u32) -> Option<u64>
     ensures edited { IsEdited rest.old rest.new (Delete key) (answer_at (Delete key) result) }
     ensures page_count { length rest.new.pages ≡ length rest.old.pages }
 {
     let number = leaf_number(rest.store(), key);
     let store = &mut rest.store;
+    let leaf = store.read(number);
+    if leaf.items.len() == 1 && leaf.look(key).is_some() {
+        *emptied = emptied.saturating_add(1);
+    }
     store.take(number, key)
 }
 
@@ -38,8 +43,9 @@ pub(crate) fn swap(rest: &mut Rest, key: u64, pointer: u64) -> Option<u64>
     store.swap(number, key, pointer)
 }
 
-/// Adds an entry to the key's leaf, unless the key is present or the leaf is full. The call takes no memory.
-pub(crate) fn put(rest: &mut Rest, key: u64, pointer: u64) -> Put
+/// Adds an entry to the key's leaf, unless the key is present or the leaf is full. The call takes no memory. It takes one from
+/// `emptied`, if the leaf was empty.
+pub(crate) fn put(rest: &mut Rest, key: u64, pointer: u64, emptied: &mut u32) -> Put
     ensures added { OnDone result (IsEdited rest.old rest.new (Insert key pointer) Inserted) }
     ensures found { IfPresent result
         (λ kept. IsEdited rest.old rest.new (Insert key pointer) (Exists kept)) }
@@ -49,6 +55,10 @@ pub(crate) fn put(rest: &mut Rest, key: u64, pointer: u64) -> Put
 {
     let number = leaf_number(rest.store(), key);
     let store = &mut rest.store;
+    // A key finds room in an empty leaf, and isn't there yet.
+    if store.read(number).items.is_empty() {
+        *emptied = emptied.saturating_sub(1);
+    }
     store.put(number, key, pointer)
 }
 

@@ -15,7 +15,7 @@ mod ends;
 mod sorted;
 
 use crate::error::IndexError;
-use blink_entries::{Scan, ScanBack, entry_count, leaf_for, tree_text};
+use blink_entries::{LeafCounts, Scan, ScanBack, leaf_counts, leaf_for, tree_text};
 use blink_operation::Entry;
 use blink_page::{MAX_FAN, MIN_FAN};
 use blink_rest::Rest;
@@ -33,6 +33,9 @@ pub struct Index {
     rest: Rest,
     // The number of entries.
     count: usize,
+    // The number of leaves without an entry, or fewer where memory for a compact tree was refused. Only when to compact depends on
+    // it, so nothing is proved of it.
+    emptied: u32,
 }
 
 impl Model for Index {
@@ -62,17 +65,26 @@ impl Index {
             return Err(IndexError::BadFan);
         }
         match Rest::empty(alloc, fan) {
-            Ok(rest) => Ok(Index { rest, count: 0 }),
+            Ok(rest) => Ok(Index {
+                rest,
+                count: 0,
+                emptied: 0,
+            }),
             Err(_) => Err(IndexError::OutOfMemory),
         }
     }
 
-    /// Makes an index of a tree at rest. The call takes no memory. It reads how many entries each leaf has.
+    /// Makes an index of a tree at rest. The call takes no memory. It reads how many entries each leaf has, and counts those that
+    /// have none.
     pub fn from_rest(rest: Rest) -> Index
         ensures { result ≡ rest }
     {
-        let count = entry_count(rest.store());
-        Index { rest, count }
+        let LeafCounts { entries, empty } = leaf_counts(rest.store());
+        Index {
+            rest,
+            count: entries,
+            emptied: empty,
+        }
     }
 
     /// Returns the tree, to be read.
@@ -123,6 +135,7 @@ impl Index {
             Ok(rest) => Ok(Index {
                 rest,
                 count: self.count,
+                emptied: self.emptied,
             }),
             Err(_) => Err(IndexError::OutOfMemory),
         }

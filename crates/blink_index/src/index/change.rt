@@ -47,7 +47,7 @@ impl Index {
         if exceeds_page_limit(self.rest().store().pages(), 1) {
             return Err(EditError::TooLarge);
         }
-        match put(&mut self.rest, key, pointer) {
+        match put(&mut self.rest, key, pointer, &mut self.emptied) {
             Put::Done => {
                 self.count += 1;
                 Ok(Answer::Inserted)
@@ -65,7 +65,7 @@ impl Index {
 
     /// Removes a key with its pointer, in place, and answers as a batch of that one deletion does: `Removed` with the pointer,
     /// or `Absent`. The call takes no memory, and reads one page for each level. A leaf that becomes empty stays a page of the
-    /// tree.
+    /// tree, until the index is compacted: a caller who has an allocator calls `compact_if_sparse` then.
     pub fn delete(&mut self, key: u64) -> Answer
         ensures answer { result ≡ answer_of (map_of self.old) (Delete key) }
         ensures map { map_of self.new ≡ map_after (map_of self.old) (Delete key) }
@@ -75,7 +75,7 @@ impl Index {
     {
         // Called for the proof: a tree at rest has its entries as a map.
         let _rest = self.rest();
-        let kept = take(&mut self.rest, key);
+        let kept = take(&mut self.rest, key, &mut self.emptied);
         self.count -= usize::from(kept.is_some());
         Op::Delete(key).answer(kept)
     }
@@ -116,7 +116,7 @@ impl Index {
     /// Removes a key with its pointer, in place, if the pointer is the expected one, and answers as a batch of that one operation
     /// does: `Removed` with the expected pointer, `Exists` with the other pointer that the key has, or `Absent`. The call takes
     /// no memory. It reads one page for each level, and reads them again where it removes. A leaf that becomes empty stays a page
-    /// of the tree.
+    /// of the tree, as after `delete`.
     pub fn delete_exact(&mut self, key: u64, expected: u64) -> Answer
         ensures answer { result ≡ answer_of (map_of self.old) (DeleteExact key expected) }
         ensures map { map_of self.new ≡ map_after (map_of self.old) (DeleteExact key expected) }
@@ -160,7 +160,7 @@ impl Index {
     /// operations before it stay carried out, and so many answers are there.
     ///
     /// The call asks for the memory of all answers before the first operation, and is refused with no answer if that is
-    /// refused. Whatever the refusal, the index is at rest.
+    /// refused. Whatever the refusal, the index is at rest. Where none is refused, the call ends as `compact_if_sparse` does.
     pub fn apply(&mut self, alloc: Global, ops: &[Op]) -> Applied
         ensures answers { result.answers.items
             ≡ answers (map_of self.old) (take (length result.answers.items) ops.now) }
@@ -177,14 +177,20 @@ impl Index {
         // Called for the proof: a tree at rest has its entries as a map.
         let _rest = self.rest();
         let refusal = match answers.reserve(ops.len()) {
-            Ok(()) => self.apply_each(ops, &mut answers),
+            Ok(()) => self.apply_each(alloc, ops, &mut answers),
             Err(_) => Some(EditError::OutOfMemory),
         };
         Applied { answers, refusal }
     }
 
-    // Carries operations out up to the first that is refused, and adds their answers, for which there is room.
-    fn apply_each(&mut self, ops: &[Op], given: &mut Vec<Answer>) -> Option<EditError>
+    // Carries operations out up to the first that is refused, and adds their answers, for which there is room. If none is refused, it
+    // compacts the index where that is sparse then.
+    fn apply_each(
+        &mut self,
+        alloc: Global,
+        ops: &[Op],
+        given: &mut Vec<Answer>,
+    ) -> Option<EditError>
         requires none { given.old.items ≡ [] }
         requires room { length ops.now ≤ vec_capacity given.old }
         ensures answers { given.new.items
@@ -206,6 +212,7 @@ impl Index {
                 Err(refusal) => return Some(refusal),
             }
         }
+        self.compact_if_sparse(alloc);
         None
     }
 }

@@ -35,10 +35,39 @@ impl Index {
         match self.repacked(alloc) {
             Ok(rest) => {
                 self.rest = rest;
+                self.emptied = 0;
                 Ok(())
             }
             Err(_) => Err(EditError::OutOfMemory),
         }
+    }
+
+    /// Compacts the index, if deletions have emptied more leaves than its entries fill and one more. Otherwise the call returns at
+    /// once, without a look at the pages.
+    ///
+    /// A caller who makes the call after each deletion has scans that read few empty leaves. From a new index on `n` changes and as
+    /// many calls take `O(n)` time in all: what a compaction reads and writes, deletions have emptied and insertions made since the last
+    /// one. Where memory is refused the index stays as it was, and the call tries again once half as many leaves more are empty.
+    pub fn compact_if_sparse(&mut self, alloc: Global)
+        ensures map { map_of self.new ≡ map_of self.old }
+        ensures kept { IsMapOf self.new (map_of self.new) }
+        ensures same_fan { self.new.fan ≡ self.old.fan }
+        ensures no_more_pages { length self.new.pages ≤ length self.old.pages }
+    {
+        // Called for the proof: a tree at rest has its entries as a map.
+        let _rest = self.rest();
+        if !self.is_sparse() {
+            return;
+        }
+        if self.compact(alloc).is_err() {
+            self.emptied /= 2;
+        }
+    }
+
+    // Whether more leaves are empty than the entries fill, and one more. A last leaf that isn't full is that one.
+    fn is_sparse(&self) -> bool {
+        let fan = u64::from(self.store().fan());
+        u64::from(self.emptied.saturating_sub(1)) * fan > self.count as u64
     }
 
     // The tree of the same entries in as few pages as they need.

@@ -47,6 +47,7 @@ impl Index {
             Ok(rest) => Ok(Index {
                 rest,
                 count: entries.len(),
+                emptied: 0,
             }),
             Err(_) => Err(SortedError::OutOfMemory),
         }

@@ -1,4 +1,4 @@
-use Rattle.std.proofs.Common.{◌≡◌, ◌+◌, ◌-◌, ◌++◌, ◌<◌, ◌≤◌, ℕ, Option, Some, None, List, [], length, append-nil, eqb-true, refl, ap, sym, subst, ◌∙◌, arith}
+use Rattle.std.proofs.Common.{◌≡◌, ◌++◌, ◌≤◌, ℕ, Option, Some, None, List, [], length, append-nil, eqb-true, refl, ap, sym, subst, ◌∙◌, arith}
 use Rattle.std.specs.Prelude.{reverse}
 use Rattle.blink_operation.specs.declared.Entry.{Entry}
 use Rattle.blink_rest.specs.{IsStoreAtRest, entries_from}

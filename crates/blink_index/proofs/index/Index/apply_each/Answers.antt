@@ -32,12 +32,13 @@ returns-clause-answers c =
 pub returns-clause-map : goal.returns-clause-map
 returns-clause-map c =
     let before = c.loop-op.invariant in
-    subst (λ (n : ℕ). map_of c.loop-op.self ≡ map_after_all (map_of c.args.self.now) (take n c.args.ops.now)) (sym before.counted) before.carried_out
+    c.compact_if_sparse.ensures.map ∙ subst (λ (n : ℕ). map_of c.loop-op.self ≡ map_after_all (map_of c.args.self.now) (take n c.args.ops.now)) (sym before.counted) before.carried_out
 
 pub returns-clause-few_pages : goal.returns-clause-few_pages
 returns-clause-few_pages c =
     let before = c.loop-op.invariant in
-    subst (λ (n : ℕ). HasPagesFor (take n c.args.ops.now) c.args.self.now c.loop-op.self) (sym before.counted) before.few_pages
+    let few : HasPagesFor (take (length c.loop-op.given.items) c.args.ops.now) c.args.self.now c.loop-op.self = subst (λ (n : ℕ). HasPagesFor (take n c.args.ops.now) c.args.self.now c.loop-op.self) (sym before.counted) before.few_pages in
+    omega (arith, few, c.compact_if_sparse.ensures.no_more_pages)
 
 pub returns-in-Err-clause-answers : goal.returns-in-Err-clause-answers
 returns-in-Err-clause-answers c =

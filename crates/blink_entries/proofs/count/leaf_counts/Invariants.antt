@@ -1,7 +1,7 @@
 use Rattle.std.proofs.Common.{◌≡◌, ◌+◌, length}
 use Rattle.blink_entries.specs.Index.{cells_of, map_of}
 use Rattle.blink_entries.specs.Scan.{IsLinkOf, entries_after}
-use Rattle.blink_entries.proofs.count.entry_count.Given as goal
+use Rattle.blink_entries.proofs.count.leaf_counts.Given as goal
 
 -- the entries that are counted, and those of the leaves from the link on
 abbrev pub invariant-leaves : goal.invariant-leaves

@@ -8,7 +8,7 @@ use Rattle.blink_entries.proofs.LevelsAsLines.{level_link}
 use Rattle.blink_entries.proofs.MapOfStore.{the_map_is_kept}
 use Rattle.blink_entries.proofs.WhereLinksLead.{link_page, leads_on, no_link_no_entry}
 use Rattle.blink_entries.proofs.packed.EntriesOfScan.{counted, length-entries_from}
-use Rattle.blink_entries.proofs.count.entry_count.Goals as goal
+use Rattle.blink_entries.proofs.count.leaf_counts.Goals as goal
 
 pub leaves-init : goal.leaves-init
 leaves-init c =
