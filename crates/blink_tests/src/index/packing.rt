@@ -1,7 +1,7 @@
 //! Indexes of ascending entries, and indexes that are packed in place.
 use super::{five, is_text, two};
 use crate::fixtures::{given, is_told, same, same_for};
-use blink_batch::{Answer, Entry};
+use blink_batch::{Answer, Entry, Op};
 use blink_index::{EditError, Index, SortedError};
 use std::alloc::Global;
 use std::process::Abort;
@@ -153,4 +153,40 @@ fn refused_memory_leaves_an_index_as_it_was(rt: HostRuntime) {
         same(&rt, &refusal, &EditError::OutOfMemory);
         assert!(&rt; index.rest().is_same(before.rest()));
     }
+}
+
+// Keys that are taken away, from the first to the last, and the pages then, at a fan of 4. A hundred keys fill 25 leaves, below 7, 2 and 1
+// pages. With 13 leaves empty the other 12 have 48 keys, so the next deletion packs the 47 that are left: 12 leaves, below 3 and 1 pages. With
+// 7 leaves of these empty the next deletion packs 19: 5 leaves, below 2 and 1 pages.
+const TAKEN: [(u64, u64, u32); 5] = [
+    (1, 52, 35),
+    (53, 53, 16),
+    (54, 80, 16),
+    (81, 81, 8),
+    (82, 90, 8),
+];
+
+#[test]
+fn an_index_is_packed_where_most_of_its_leaves_are_empty(rt: HostRuntime) {
+    let mut index = index_to(&rt, rt.alloc(), 4, 100);
+    for &(first, last, pages) in &TAKEN {
+        for key in first..=last {
+            same(&rt, &index.delete(key), &Answer::Removed(key));
+            index.compact_if_sparse(rt.alloc());
+        }
+        same_for(&rt, &index.page_count(), &pages, &last);
+    }
+}
+
+// The same keys taken away by one call, and the pages then: 10 keys in 3 leaves below a root.
+#[test]
+fn operations_in_place_end_with_a_packed_index(rt: HostRuntime) {
+    let mut index = index_to(&rt, rt.alloc(), 4, 100);
+    let mut ops = Vec::new(rt.alloc());
+    for key in 1..=90 {
+        given(&rt, ops.push(Op::Delete(key)));
+    }
+    let applied = index.apply(rt.alloc(), &ops);
+    same(&rt, &applied.refusal, &None);
+    same(&rt, &index.page_count(), &4);
 }
