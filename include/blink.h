@@ -514,7 +514,7 @@ void blink_pass_free(blink_pass pass);
  * map has then. A split of a page takes one of `pages` page numbers, and every write of a whole page one of `rows` rows. Most changes are
  * appended to the row of their page, and take none. An insertion has to have 22 numbers and 44 rows when it begins; a deletion, a replacement
  * or an exchange has to have one row.
- * Sessions draw both from the map's pool, at most 512 numbers and 1,024 rows at once; what one draws no other gets, before its place is
+ * Sessions draw both from the map's pool, at most 64 numbers and 1,024 rows at once; what one draws no other gets, before its place is
  * taken again. One that has fewer than 22 numbers draws others, and keeps those that it had, which it uses first. So no number is lost:
  * when all is full, each session has at most 21 left, and the pool as many. Splits by one session take 19,979 of 20,000 numbers, 979 of
  * 1,000, and 179 of 200 (measured).
@@ -542,13 +542,13 @@ static inline int blink_map_open(const blink_index *index, uint32_t pages, uint3
 /* Stores the page numbers and rows that are enough for so many insertions of absent keys into a map over this index, whatever their keys
  * and their order, by so many sessions, and for any number of other changes. Each leaf of the index may be full and split once; after that
  * a leaf splits again once half of a page has been inserted into it. Random keys take about two thirds of these page numbers. Beside them,
- * each session gets 534, since it may have drawn so many and not used them. With their rows they take 0.8 MB, whether the session is there or
+ * each session gets 86, since it may have drawn so many and not used them. With their rows they take 0.3 MB, whether the session is there or
  * not. What is too large, blink_map_open refuses. */
 static inline void blink_room_for(const blink_index *index, uint32_t insertions, uint32_t sessions, uint32_t *pages, uint32_t *rows) {
     uint64_t half = (blink_index_fan(index) + 1u) / 2; /* so many insertions fill the half that a split leaves */
     uint64_t leaves = blink_index_pages(index) + insertions / half;
     /* the levels above, a new root for each level, and what sessions have drawn and not used */
-    uint64_t most_pages = leaves * half / (half - 1) + 21 + 534 * (uint64_t)sessions;
+    uint64_t most_pages = leaves * half / (half - 1) + 21 + 86 * (uint64_t)sessions;
     uint64_t most_rows = 2 * most_pages + 300 * (uint64_t)sessions;
     *pages = most_pages < UINT32_MAX ? (uint32_t)most_pages : UINT32_MAX;
     *rows = most_rows < UINT32_MAX ? (uint32_t)most_rows : UINT32_MAX;

@@ -639,7 +639,7 @@ def room_for(index, insertions, sessions):
     insertions, sessions = _number(insertions, 32), _number(sessions, 32)
     half = (index.fan() + 1) // 2
     leaves = index.pages() + insertions // half
-    pages = leaves * half // (half - 1) + 21 + 534 * sessions
+    pages = leaves * half // (half - 1) + 21 + 86 * sessions
     rows = 2 * pages + 300 * sessions
     most = 2**32 - 1
     return Room(min(pages, most), min(rows, most), sessions)

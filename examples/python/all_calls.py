@@ -166,7 +166,7 @@ def shares_a_map():
     assert len(closed) == 1010 and closed.find(5) == 7 and len(index) == 0
     # as test.c of crates/blink_c/link has it: two insertions fill a half page of four again
     four = blink.Index(4)
-    assert blink.room_for(four, 1000, 2) == (2091, 4782, 2) and blink.room_for(four, 2**32 - 1, 256) == (2**32 - 1, 2**32 - 1, 256)
+    assert blink.room_for(four, 1000, 2) == (1195, 2990, 2) and blink.room_for(four, 2**32 - 1, 256) == (2**32 - 1, 2**32 - 1, 256)
     left = blink.Map(index, *blink.room_for(index, 100, 1))
     session = left.join()
     assert refuses(blink.Error, left.close).name == "SESSION_MISSING" and session.find(5) is None

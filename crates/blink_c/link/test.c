@@ -525,8 +525,8 @@ static void changes_a_map(void) {
     CHECK(is(changes(&one, BLINK_FIND, 3, NONE), BLINK_FOUND, 30) && is(changes(&one, BLINK_FIND, 6, NONE), BLINK_ABSENT, 0));
     CHECK(has(&one, (blink_reserve){0, 0, 0, 0, 0}));
     CHECK(is(changes(&one, BLINK_INSERT, 6, 60), BLINK_INSERTED, 0) && is(changes(&one, BLINK_INSERT, 6, 61), BLINK_EXISTS, 60));
-    // of two sessions it has drawn a quarter of the pool, 75 numbers and 150 rows, and its insertion was appended to the leaf's row
-    CHECK(has(&one, (blink_reserve){75, 150, 0, 0, 0}));
+    // of two sessions it has drawn 64 numbers, and a quarter of the pool's rows, and its insertion was appended to the leaf's row
+    CHECK(has(&one, (blink_reserve){64, 150, 0, 0, 0}));
     CHECK(is(changes(&one, BLINK_REPLACE, 6, 62), BLINK_REPLACED, 60) && is(changes(&one, BLINK_REPLACE, 7, 70), BLINK_ABSENT, 0));
     CHECK(is(changes(&one, BLINK_DELETE, 2, NONE), BLINK_REMOVED, 20) && is(changes(&one, BLINK_DELETE, 2, NONE), BLINK_ABSENT, 0));
     CHECK(is(puts_so(&one, 7, 71), BLINK_INSERTED, 0) && is(puts_so(&one, 7, 72), BLINK_REPLACED, 71));
@@ -574,9 +574,9 @@ static void has_room_for_its_insertions(void) {
     blink_answer answer;
     uint32_t pages = 0, rows = 0;
     CHECK(blink_index_new(4, &index) == BLINK_DONE);
-    // two insertions fill a half page of four again: 1 + 500 leaves, as many pages above them, 21, and 534 for each session
+    // two insertions fill a half page of four again: 1 + 500 leaves, as many pages above them, 21, and 86 for each session
     blink_room_for(&index, 1000, 2, &pages, &rows);
-    CHECK(pages == 2091 && rows == 4782);
+    CHECK(pages == 1195 && rows == 2990);
     blink_room_for(&index, UINT32_MAX, 256, &pages, &rows);
     CHECK(pages == UINT32_MAX && rows == UINT32_MAX);
     blink_room_for(&index, 1000, 1, &pages, &rows);

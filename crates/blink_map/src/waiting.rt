@@ -14,10 +14,11 @@ pub(crate) const LOOKS: u32 = 64;
 pub(crate) const BATCH_ROWS: usize = 64;
 
 // The number of rows that a session draws at once, and of page numbers. A draw is a step at a word which all sessions share. What a
-// session has drawn no other one can use.
+// session has drawn no other one can use. So many page numbers last for a thousand insertions at random: more would only make a room
+// larger, which counts them for each session, with two rows for each.
 pub(crate) const ROW_CHUNK: u64 = 1024;
 
-pub(crate) const PAGE_CHUNK: u64 = 512;
+pub(crate) const PAGE_CHUNK: u64 = 64;
 
 /// How often an operation tries to go on whose session is freed, before its place is lost with it. Only a session that another one holds
 /// up for so long pays for it.

@@ -15,7 +15,7 @@ use std::thread;
 #[derive(Clone, Copy, Debug, PartialEq, Eq, Hash)]
 pub struct Room {
     /// Page numbers. A split of a page takes one. An insertion has to have 22 when it begins, and uses none mostly. A session with
-    /// fewer draws others from the pool, up to 512, and keeps those that it had left, which it uses first. So no number is lost: when all
+    /// fewer draws others from the pool, up to 64, and keeps those that it had left, which it uses first. So no number is lost: when all
     /// is full, each session has at most 21 left, and the pool as many. Splits by one session take 19,979 of 20,000 numbers, 979 of 1,000,
     /// and 179 of 200; by eight that draw by turns 19,834 and 836 (measured).
     pub pages: u32,
@@ -33,8 +33,8 @@ pub struct Room {
 impl Room {
     /// A room over this index that is enough for so many insertions of absent keys, whatever their keys and their order, by so many sessions,
     /// and for any number of other changes. Each leaf of the index may be full and split once; after that a leaf splits again once half of a
-    /// page has been inserted into it. Random keys take about two thirds of these page numbers. Beside them, each session gets 534, since it may
-    /// have drawn so many and not used them. With their rows they take 0.8 MB, whether the session is there or not.
+    /// page has been inserted into it. Random keys take about two thirds of these page numbers. Beside them, each session gets 86, since it may
+    /// have drawn so many and not used them. With their rows they take 0.3 MB, whether the session is there or not.
     ///
     /// [`Map::open`] refuses a room that is too large, with [`Error::TooLarge`].
     ///
@@ -54,7 +54,7 @@ impl Room {
         let half = (u64::from(index.fan()) + 1) / 2;
         let leaves = u64::from(index.pages()) + u64::from(insertions) / half;
         // The levels above, a new root for each level, and what sessions have drawn and not used.
-        let pages = leaves * half / (half - 1) + 21 + 534 * u64::from(sessions);
+        let pages = leaves * half / (half - 1) + 21 + 86 * u64::from(sessions);
         let rows = 2 * pages + 300 * u64::from(sessions);
         let bounded = |number: u64| u32::try_from(number).unwrap_or(u32::MAX);
         Room { pages: bounded(pages), rows: bounded(rows), sessions }
