@@ -65,7 +65,7 @@ impl Index {
 
     /// Removes a key with its pointer, in place, and answers as a batch of that one deletion does: `Removed` with the pointer,
     /// or `Absent`. The call takes no memory, and reads one page for each level. A leaf that becomes empty stays a page of the
-    /// tree, until the index is compacted: a caller who has an allocator calls `compact_if_sparse` then.
+    /// tree, until the index is compacted, as `delete_and_compact` does.
     pub fn delete(&mut self, key: u64) -> Answer
         ensures answer { result ≡ answer_of (map_of self.old) (Delete key) }
         ensures map { map_of self.new ≡ map_after (map_of self.old) (Delete key) }

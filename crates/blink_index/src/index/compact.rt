@@ -1,12 +1,16 @@
 //! Packing an index into as few pages as its entries need.
-ghost use Rattle.std.specs.Prelude.{◌≡◌, ◌≤◌, length, IfOk, IsOkUnless, OnErr, OnOk};
+ghost use Rattle.std.specs.Prelude.{◌≡◌, ◌≤◌, [], ◌∷◌, length, IfErr, IfOk, IsOkUnless, OnErr, OnOk};
+ghost use Rattle.blink_operation.specs.{answer_of, map_after};
+ghost use Rattle.blink_operation.specs.declared.Op.TheVariants.{Delete, DeleteExact};
 ghost use Rattle.blink_rest.specs.{IsMapOf};
 ghost use Rattle.blink_entries.specs.Index.{map_of};
 ghost use Rattle.blink_entries.specs.Packed.{IsInOrder, NeedsPages};
+ghost use Rattle.blink_index.specs.Edit.{HasPagesFor, IsEditRefusal};
 
 use super::Index;
 use crate::error::EditError;
 use blink_entries::{add_entry, first_leaf, pages_needed, tree_over};
+use blink_operation::{Answer, Op};
 use blink_rest::Rest;
 use std::alloc::{AllocError, Global};
 
@@ -45,8 +49,8 @@ impl Index {
     /// Compacts the index, if deletions have emptied more leaves than its entries fill and one more. Otherwise the call returns at
     /// once, without a look at the pages.
     ///
-    /// A caller who makes the call after each deletion has scans that read few empty leaves. From a new index on `n` changes and as
-    /// many calls take `O(n)` time in all: what a compaction reads and writes, deletions have emptied and insertions made since the last
+    /// A caller who makes the call after each deletion, as `delete_and_compact` does, has scans that read few empty leaves. From a new
+    /// index on `n` changes and as many calls take `O(n)` time in all: what a compaction reads and writes, deletions have emptied and insertions made since the last
     /// one. Where memory is refused the index stays as it was, and the call tries again once half as many leaves more are empty.
     pub fn compact_if_sparse(&mut self, alloc: Global)
         ensures map { map_of self.new ≡ map_of self.old }
@@ -61,6 +65,52 @@ impl Index {
         }
         if self.compact(alloc).is_err() {
             self.emptied /= 2;
+        }
+    }
+
+    /// Removes a key as `delete` does, and then compacts the index where it is sparse, as `compact_if_sparse` does.
+    pub fn delete_and_compact(&mut self, alloc: Global, key: u64) -> Answer
+        ensures answer { result ≡ answer_of (map_of self.old) (Delete key) }
+        ensures map { map_of self.new ≡ map_after (map_of self.old) (Delete key) }
+        ensures kept { IsMapOf self.new (map_of self.new) }
+        ensures same_fan { self.new.fan ≡ self.old.fan }
+        ensures no_more_pages { length self.new.pages ≤ length self.old.pages }
+    {
+        let answer = self.delete(key);
+        self.compact_if_sparse(alloc);
+        answer
+    }
+
+    /// Removes a key as `delete_exact` does, and then compacts the index where it is sparse, as `compact_if_sparse` does.
+    pub fn delete_exact_and_compact(&mut self, alloc: Global, key: u64, expected: u64) -> Answer
+        ensures answer { result ≡ answer_of (map_of self.old) (DeleteExact key expected) }
+        ensures map { map_of self.new ≡ map_after (map_of self.old) (DeleteExact key expected) }
+        ensures kept { IsMapOf self.new (map_of self.new) }
+        ensures same_fan { self.new.fan ≡ self.old.fan }
+        ensures no_more_pages { length self.new.pages ≤ length self.old.pages }
+    {
+        let answer = self.delete_exact(key, expected);
+        self.compact_if_sparse(alloc);
+        answer
+    }
+
+    /// Carries one operation out as `edit` does, and then compacts the index where it is sparse, as `compact_if_sparse` does. A refused
+    /// operation changes nothing.
+    pub fn edit_and_compact(&mut self, alloc: Global, op: Op) -> Result<Answer, EditError>
+        ensures answer { IfOk result (λ answer. answer ≡ answer_of (map_of self.old) op) }
+        ensures map { IfOk result (λ _. map_of self.new ≡ map_after (map_of self.old) op) }
+        ensures kept { IsMapOf self.new (map_of self.new) }
+        ensures same_fan { self.new.fan ≡ self.old.fan }
+        ensures few_pages { HasPagesFor (op ∷ []) self.old self.new }
+        ensures refused { IfErr result (IsEditRefusal self.old op) }
+        ensures unchanged { OnErr result (self.new ≡ self.old) }
+    {
+        match self.edit(op) {
+            Ok(answer) => {
+                self.compact_if_sparse(alloc);
+                Ok(answer)
+            }
+            Err(refusal) => Err(refusal),
         }
     }
 

@@ -171,8 +171,8 @@ fn an_index_is_packed_where_most_of_its_leaves_are_empty(rt: HostRuntime) {
     let mut index = index_to(&rt, rt.alloc(), 4, 100);
     for &(first, last, pages) in &TAKEN {
         for key in first..=last {
-            same(&rt, &index.delete(key), &Answer::Removed(key));
-            index.compact_if_sparse(rt.alloc());
+            let answer = index.delete_and_compact(rt.alloc(), key);
+            same(&rt, &answer, &Answer::Removed(key));
         }
         same_for(&rt, &index.page_count(), &pages, &last);
     }
