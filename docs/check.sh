@@ -16,7 +16,7 @@ shown="examples/tour/*.notes examples/tour/index.html docs/pictures/draw.py incl
 # README.md has at most so many lines; each other document but BOOK.md so many words of prose; each cell of a table so many words. Names in
 # backticks don't count.
 most_lines=130
-most_words=2500
+most_words=2600
 most_in_cell=40
 
 # Names of code that were renamed, and words of prose that the field has others for. CHANGING.md says why, in lines that begin with "Not".
