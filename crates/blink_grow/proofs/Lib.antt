@@ -6,6 +6,8 @@ pub mod MapSwitches
 pub mod SeatsChange
 pub mod SlotsOpen
 pub mod CallsOfSessions
+pub mod HeldSessions
+pub mod HoldsForACall
 pub mod Opens
 pub mod Gathers
 pub mod NextMap
@@ -14,3 +16,4 @@ pub mod SeatsCompare
 pub mod Closes
 pub mod Tells
 pub mod EndsOfReports
+pub mod PlacesKept

@@ -3,7 +3,14 @@
 -- the operations that change a map
 pub use Rattle.blink_machine.specs.{IsUpdate}
 -- a map and its sessions
-pub use Rattle.blink_grow.specs.Sessions.{HasSameSlot, IsAnswered, IsSameBesideSeen, IsSessionOf, made_by, opening_of, place_of, places_of, seen_by}
+pub use Rattle.blink_grow.specs.Sessions.{HasSameSlot, IsAnswered, IsSameBesideSeen, IsSameSession, IsSessionOf, made_by, opening_of, place_of, places_of, seen_by}
+-- a session that is held
+pub use Rattle.blink_grow.specs.Holding.{AnswersFrom, HasSamePlace, IsAnsweredHeld, IsHeldFrom, IsHeldOf, IsHeldOn, IsReleased, known_by, known_to, made_by_held, place_of_held, seen_by_held, stock_of_held}
+pub use Rattle.blink_grow.specs.Rule.{IsContinued}
+-- an operation of a held session under way: which one it is, and the session before it
+pub use Rattle.blink_grow.specs.Pendings.{GoesOn, HasBegun, HasStopped, IsPendingOf, held_of, op_of}
+-- the places where sessions rest
+pub use Rattle.blink_grow.specs.Joining.{map_at}
 -- how a map opens: each session is the first of its place
 pub use Rattle.blink_grow.specs.Opening.{AreFirstSessions, IsFirstAt}
 -- how a map closes
@@ -17,7 +24,12 @@ pub mod Rule
 pub mod Steps
 pub mod Laid
 pub mod Own
+pub mod Held
 pub mod Sessions
+pub mod Holding
+pub mod Pendings
+pub mod Resting
+pub mod Joining
 pub mod Opening
 pub mod Renewing
 pub mod Closing

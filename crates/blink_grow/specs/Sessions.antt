@@ -47,6 +47,12 @@ pub record HasSameSlot (old new : Session) : Type 0 where
   pub same_first : new.seat.me.0.first ≡ old.seat.me.0.first
   pub same_place : place_of new ≡ place_of old
 
+-- the session is as it was
+pub record IsSameSession (old new : Session) : Type 0 where
+  pub seen : seen_by new ≡ seen_by old
+  pub made : made_by new ≡ made_by old
+  pub same_slot : HasSameSlot old new
+
 -- the session is as it was, except that it may have seen more
 pub record IsSameBesideSeen (old new : Session) : Type 0 where
   pub saw : IsPrefix (seen_by old) (seen_by new)

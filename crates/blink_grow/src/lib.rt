@@ -3,6 +3,7 @@
 //! their places. The contracts speak of one list of changes, which is that of all these maps, one behind the other.
 #![tactic(auto)]
 
+mod advance;
 mod calls;
 mod change;
 mod close;
@@ -12,19 +13,28 @@ mod error;
 mod find;
 mod gather;
 mod growing;
+mod held;
+mod hold;
+mod look;
 mod next;
 mod open;
+mod places;
 mod renew;
 mod room;
 mod scan;
 mod scan_back;
+mod sessions;
 mod slots;
 mod snapshot;
+mod start;
 mod tell;
 #[cfg(test)]
 mod tests;
 mod waiting;
 
 pub use blink_live::Scanned;
+pub use blink_map::Stock;
 pub use error::GrowError;
 pub use growing::{GrowingMap, Session, Unclosed};
+pub use held::{Held, PendingHeld, StoppedHeld};
+pub use places::Places;

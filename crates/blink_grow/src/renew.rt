@@ -1,6 +1,6 @@
 //! Renewing a growing map: all its sessions are gathered, the entries are copied into the next map with more room, and a session of that
 //! map is put into each slot.
-ghost use Rattle.std.specs.Prelude.{IfErr};
+ghost use Rattle.std.specs.Prelude.{IfErr, IfSome};
 ghost use Rattle.blink_index.specs.{map_of};
 ghost use Rattle.blink_grow.specs.Renewing.{IsCopied, IsRefusal};
 
@@ -15,6 +15,7 @@ use atomic_table::Seat;
 use std::alloc::Global;
 use std::sync::Wait;
 use std::sync::atomic::Ordering;
+use std::thread;
 
 impl GrowingMap {
     /// Renews the map: its entries are packed into another map, with new room for changes. The map does so by itself where a change
@@ -30,6 +31,23 @@ impl GrowingMap {
         self.renew_once(rt, alloc, None)
     }
 
+    /// Renews the map as `renew` does, and waits for nobody. It looks `looks` times for each session that is in a call, or held. Where
+    /// `full` is the number of the map that was found full (`Held::number`), and the map has been renewed since, it does nothing. It
+    /// takes the time of a copy of all entries.
+    ///
+    /// The call refuses with `Busy`, if a session was in a call, or held, at each look, or another thread was renewing the map at each
+    /// look; with `TooLarge`, if the entries leave too few of the 1,048,575 page numbers; and with `OutOfMemory`, if memory was
+    /// refused. Then the map goes on with the room that it has left.
+    pub fn try_renew(&self, alloc: Global, full: Option<u64>, looks: u32) -> Result<(), GrowError>
+        ensures refused { IfErr result IsRefusal }
+    {
+        match self.renew_unless_busy(alloc, full, looks) {
+            Some(outcome) => outcome,
+            None if self.is_renewed_within(looks) => Ok(()),
+            None => Err(GrowError::Busy),
+        }
+    }
+
     // Renews the map, unless another thread does so, or has done so since the map of this number was found full.
     pub(crate) fn renew_once<R: Wait>(
         &self,
@@ -39,24 +57,52 @@ impl GrowingMap {
     ) -> Result<(), GrowError>
         ensures refused { IfErr result IsRefusal }
     {
-        if self.renewing.swap(true, Ordering::SeqCst) {
-            self.wait_for_renewal(rt);
-            return Ok(());
+        match self.renew_unless_busy(alloc, full, RENEWAL_LOOKS) {
+            Some(outcome) => outcome,
+            None => {
+                self.wait_for_renewal(rt);
+                Ok(())
+            }
         }
-        let outcome = self.renew_alone(alloc, full);
+    }
+
+    // Renews the map, unless it has been renewed since the map of this number was found full. `None`, if another thread renews it.
+    fn renew_unless_busy(
+        &self,
+        alloc: Global,
+        full: Option<u64>,
+        looks: u32,
+    ) -> Option<Result<(), GrowError>>
+        ensures refused { IfSome result (λ outcome. IfErr outcome IsRefusal) }
+    {
+        if self.renewing.swap(true, Ordering::SeqCst) {
+            return None;
+        }
+        let outcome = self.renew_alone(alloc, full, looks);
         self.renewing.store(false, Ordering::SeqCst);
-        outcome
+        Some(outcome)
+    }
+
+    // Returns whether nobody renews the map at one of so many looks.
+    fn is_renewed_within(&self, looks: u32) -> bool {
+        for _ in 0..looks {
+            if !self.renewing.load(Ordering::SeqCst) {
+                return true;
+            }
+            thread::yield_now();
+        }
+        false
     }
 
     // Renews the map, unless its number is another one by now.
-    fn renew_alone(&self, alloc: Global, full: Option<u64>) -> Result<(), GrowError>
+    fn renew_alone(&self, alloc: Global, full: Option<u64>, looks: u32) -> Result<(), GrowError>
         ensures refused { IfErr result IsRefusal }
     {
         let Begun {
             mut seat,
             lead,
             others,
-        } = match self.begin(alloc, RENEWAL_LOOKS) {
+        } = match self.begin(alloc, looks) {
             Ok(begun) => begun,
             Err(refusal) => return Err(refusal),
         };
@@ -68,7 +114,7 @@ impl GrowingMap {
             self.give_all(&mut seat, lead, others);
             return Ok(());
         }
-        match self.copy(alloc, &mut seat, lead, others, RENEWAL_LOOKS) {
+        match self.copy(alloc, &mut seat, lead, others, looks) {
             Ok(copied) => self.go_over(alloc, &mut seat, copied),
             Err(refusal) => Err(refusal),
         }

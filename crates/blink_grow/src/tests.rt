@@ -1,4 +1,4 @@
-//! What a renewal and a close do where a session is held up in a call. No call is so long that a test of another crate can rely on it.
+//! What a renewal and a close do where a session is held, and what a session does where the map is renewed.
 ghost use Rattle.blink_grow.specs.Sessions.{IsSessionOf};
 
 use crate::error::GrowError;
@@ -7,31 +7,7 @@ use blink_batch::{Answer, Op};
 use std::alloc::Global;
 use std::process::Abort;
 use std::sync::Wait;
-
-// Renews the map while this session is in a call.
-fn renew_in_a_call<R: Wait>(
-    rt: &R,
-    alloc: Global,
-    map: &GrowingMap,
-    session: &mut Session,
-) -> Result<(), GrowError>
-    requires its_own { IsSessionOf map.now session.old }
-    ensures its_own { IsSessionOf map.now session.new }
-{
-    let Session { seat, slot } = session;
-    let held = map.take(rt, seat, *slot);
-    let outcome = map.renew(rt, alloc);
-    map.give(seat, *slot, held);
-    outcome
-}
-
-// Begins a call by this session, which never ends.
-fn lose<R: Wait>(rt: &R, map: &GrowingMap, session: Session)
-    requires its_own { IsSessionOf map.now session }
-{
-    let Session { mut seat, slot } = session;
-    let _held = map.take(rt, &mut seat, slot);
-}
+use std::sync::atomic::Ordering;
 
 // A map in which key 7 has pointer 70, and its two sessions.
 fn two<R: Wait + Abort>(rt: &R, alloc: Global) -> (GrowingMap, Session, Session)
@@ -48,15 +24,17 @@ fn two<R: Wait + Abort>(rt: &R, alloc: Global) -> (GrowingMap, Session, Session)
 
 // Whichever slot is empty, the sessions that were gathered are back in theirs afterwards.
 #[test]
-fn a_renewal_gives_up_where_a_session_is_held_up(rt: HostRuntime) {
+fn a_renewal_gives_up_where_a_session_is_held(rt: HostRuntime) {
     let alloc = rt.alloc();
-    let (map, mut one, mut other) = two(&rt, alloc);
-    let outcome = renew_in_a_call(&rt, alloc, &map, &mut one);
-    assert_eq!(&rt; outcome, Err(GrowError::Busy));
+    let (map, one, mut other) = two(&rt, alloc);
+    let held = map.hold(&rt, one);
+    assert_eq!(&rt; map.renew(&rt, alloc), Err(GrowError::Busy));
     assert_eq!(&rt; map.find(&rt, &mut other, 7), Some(70));
-    let outcome = renew_in_a_call(&rt, alloc, &map, &mut other);
-    assert_eq!(&rt; outcome, Err(GrowError::Busy));
+    let mut one = map.release(held);
+    let held = map.hold(&rt, other);
+    assert_eq!(&rt; map.renew(&rt, alloc), Err(GrowError::Busy));
     assert_eq!(&rt; map.find(&rt, &mut one, 7), Some(70));
+    let mut other = map.release(held);
     assert_eq!(&rt; map.renew(&rt, alloc), Ok(()));
     assert_eq!(&rt; map.find(&rt, &mut one, 7), Some(70));
     let answer = map.change(&rt, alloc, &mut other, Op::Delete(7));
@@ -64,10 +42,22 @@ fn a_renewal_gives_up_where_a_session_is_held_up(rt: HostRuntime) {
 }
 
 #[test]
+fn no_session_is_held_and_no_other_renewal_begins_while_the_map_is_renewed(rt: HostRuntime) {
+    let alloc = rt.alloc();
+    let (map, one, _other) = two(&rt, alloc);
+    map.renewing.store(true, Ordering::SeqCst);
+    assert_eq!(&rt; map.try_renew(alloc, None, 2), Err(GrowError::Busy));
+    let one = map.try_hold(one, 2).err().expect(&rt, "held");
+    map.renewing.store(false, Ordering::SeqCst);
+    let mut held = map.try_hold(one, 1).ok().expect(&rt, "not held");
+    assert_eq!(&rt; map.find_held(&mut held, 7), Some(70));
+}
+
+#[test]
 fn a_map_with_a_lost_session_stays_open(rt: HostRuntime) {
     let alloc = rt.alloc();
     let (map, mut one, other) = two(&rt, alloc);
-    lose(&rt, &map, other);
+    let _lost = map.hold(&rt, other);
     let Err(unclosed) = map.close(alloc, Vec::new(alloc)) else {
         assert!(&rt; false, "closed");
         return;

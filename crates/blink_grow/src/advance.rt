@@ -1,0 +1,53 @@
+//! An operation of a held session that has begun, and waits: its next steps.
+ghost use Rattle.std.specs.Prelude.{IfErr, IfOk};
+ghost use Rattle.blink_grow.specs.Holding.{IsAnsweredHeld};
+ghost use Rattle.blink_grow.specs.Pendings.{GoesOn, IsPendingOf, held_of, op_of};
+
+use crate::growing::GrowingMap;
+use crate::held::{Held, PendingHeld};
+use crate::slots::Current;
+use blink_batch::Answer;
+
+impl GrowingMap {
+    /// Takes the next steps of an operation of a held session. It returns the session and the operation's answer once the operation has
+    /// ended. It gives the operation back after `tries` steps in vain, at least one. The next call goes on from there. The call takes no
+    /// memory, waits for nobody, and returns.
+    pub fn advance(&self, pending: PendingHeld, tries: u32) -> Result<(Held, Answer), PendingHeld>
+        requires its_own { IsPendingOf self.now pending }
+        ensures answered { IfOk result
+            (λ ended. IsAnsweredHeld self.now (op_of pending) (held_of pending) ended.0 ended.1) }
+        ensures goes_on { IfErr result (GoesOn self.now pending) }
+    {
+        let PendingHeld {
+            seat,
+            slot,
+            map,
+            number,
+            now,
+            begun,
+        } = pending;
+        match map.advance(now, tries) {
+            Ok((session, answer)) => {
+                let current = Current {
+                    map,
+                    session,
+                    number,
+                };
+                let held = Held {
+                    seat,
+                    slot,
+                    current,
+                };
+                Ok((held, answer))
+            }
+            Err(now) => Err(PendingHeld {
+                seat,
+                slot,
+                map,
+                number,
+                now,
+                begun,
+            }),
+        }
+    }
+}

@@ -1,0 +1,70 @@
+//! Holding a session, and releasing it.
+ghost use Rattle.std.specs.Prelude.{IfErr, IfOk};
+ghost use Rattle.blink_grow.specs.Holding.{IsHeldFrom, IsHeldOf, IsReleased};
+ghost use Rattle.blink_grow.specs.Sessions.{IsSameSession, IsSessionOf};
+
+use crate::growing::{GrowingMap, Session};
+use crate::held::Held;
+use std::sync::Wait;
+use std::sync::atomic::Ordering;
+use std::thread;
+
+impl GrowingMap {
+    /// Holds a session, so that calls on it wait for nobody until it is released. It holds back a renewal and a close meanwhile, and
+    /// nothing else. The call takes no memory, and waits while the map is renewed.
+    pub fn hold<R: Wait>(&self, rt: &R, session: Session) -> Held
+        requires its_own { IsSessionOf self.now session }
+        ensures its_own { IsHeldOf self.now result }
+        ensures held { IsHeldFrom session result }
+    {
+        let Session { mut seat, slot } = session;
+        let current = self.take(rt, &mut seat, slot);
+        Held {
+            seat,
+            slot,
+            current,
+        }
+    }
+
+    /// Holds a session as `hold` does, if it can. It looks `tries` times, at least once, and lets a renewal that has begun go first. The
+    /// call takes no memory, waits for nobody, and returns.
+    ///
+    /// The call gives the session back as it was, if the map was renewed, or was about to be, at each look.
+    pub fn try_hold(&self, session: Session, tries: u32) -> Result<Held, Session>
+        requires its_own { IsSessionOf self.now session }
+        ensures its_own { IfOk result (IsHeldOf self.now) }
+        ensures held { IfOk result (IsHeldFrom session) }
+        ensures same { IfErr result (IsSameSession session) }
+    {
+        let Session { mut seat, slot } = session;
+        for _ in 0..tries.max(1) {
+            if !self.renewing.load(Ordering::SeqCst) {
+                if let Some(current) = self.try_take(&mut seat, slot) {
+                    return Ok(Held {
+                        seat,
+                        slot,
+                        current,
+                    });
+                }
+            }
+            thread::yield_now();
+        }
+        Err(Session { seat, slot })
+    }
+
+    /// Releases a held session. It knows all that it had seen and made while it was held. The call takes no memory, waits for nobody, and
+    /// returns.
+    pub fn release(&self, held: Held) -> Session
+        requires its_own { IsHeldOf self.now held }
+        ensures its_own { IsSessionOf self.now result }
+        ensures released { IsReleased held result }
+    {
+        let Held {
+            mut seat,
+            slot,
+            current,
+        } = held;
+        self.give(&mut seat, slot, current);
+        Session { seat, slot }
+    }
+}
