@@ -1,9 +1,11 @@
 //! The types of a session that is held: `Held`, and a `PendingHeld`, which is its operation under way.
-ghost use Rattle.std.specs.Prelude.{◌≡◌, ◌<◌};
+ghost use Rattle.std.specs.Prelude.{◌≡◌, ◌<◌, ◌↔◌, IsTrue};
+ghost use Rattle.blink_map.specs.{LacksRoomInAll};
 ghost use Rattle.blink_grow.specs.Held.{IsHeld};
 
 use crate::slots::{Current, SlotView};
 use atomic_table::Seat;
+use blink_batch::Op;
 use blink_map::{Map, Pending};
 use std::snapshot::Snapshot;
 use std::sync::Arc;
@@ -45,6 +47,13 @@ pub enum StoppedHeld {
 }
 
 impl Held {
+    /// Whether the session lacks the room that the operation may need in the current map, also once all its rows have come back.
+    pub fn lacks_room_in_all(&self, op: Op) -> bool
+        ensures { IsTrue result ↔ LacksRoomInAll op self.now.current.session }
+    {
+        self.current.session.lacks_room_in_all(op)
+    }
+
     /// Returns the number of the current map: how often the map was renewed before. Who finds this map full tells `try_renew`.
     pub fn number(&self) -> u64 {
         self.current.number

@@ -6,6 +6,8 @@ mod ends;
 #[cfg(test)]
 mod growth;
 #[cfg(test)]
+mod held;
+#[cfg(test)]
 mod memory;
 #[cfg(test)]
 mod same;

@@ -1,15 +1,16 @@
 //! A growing map and one session, whose calls have no condition: what is so of them is in the type.
 ghost use Rattle.std.specs.Prelude.{All, IfOk};
 ghost use Rattle.blink_batch.specs.{FitsWords};
-ghost use Rattle.blink_grow.specs.{IsSessionOf, IsUpdate};
+ghost use Rattle.blink_grow.specs.{IsHeldOf, IsPendingOf, IsSessionOf, IsUpdate};
 
 use crate::same::same_for;
 use blink_batch::{Answer, Op};
-use blink_grow::{GrowError, GrowingMap, Session};
+use blink_grow::{GrowError, GrowingMap, Held, PendingHeld, Session, StoppedHeld};
 use blink_index::Index;
 use std::alloc::Global;
 use std::process::Abort;
 use std::sync::Wait;
+use std::thread;
 
 // A map, and one of its sessions.
 #[derive(Drop)]
@@ -138,4 +139,90 @@ pub(crate) fn apply<R: Wait>(
         Ok(op) => map.change(rt, alloc, session, op),
         Err(key) => Ok(op.answer(map.find(rt, session, key))),
     }
+}
+
+// How often a renewal looks for a session that another thread holds.
+const LOOKS: u32 = 1_000;
+
+// Runs the operation by calls that wait for nobody, which are made again until it has ended.
+pub(crate) fn apply_held<R: Wait>(
+    rt: &R,
+    alloc: Global,
+    map: &GrowingMap,
+    session: Session,
+    op: Op,
+) -> (Session, Answer)
+    requires { IsSessionOf map.now session }
+    ensures { IsSessionOf map.now result.0 }
+{
+    let held = hold(rt, map, session);
+    match change_of(op) {
+        Ok(op) => {
+            let (held, answer) = change_held(rt, alloc, map, held, op);
+            (map.release(held), answer)
+        }
+        Err(key) => {
+            let mut held = held;
+            let answer = op.answer(map.find_held(&mut held, key));
+            (map.release(held), answer)
+        }
+    }
+}
+
+fn hold<R: Wait>(rt: &R, map: &GrowingMap, session: Session) -> Held
+    requires { IsSessionOf map.now session }
+    ensures { IsHeldOf map.now result }
+{
+    let mut session = session;
+    for _ in rt.forever() {
+        match map.try_hold(session, 1) {
+            Ok(held) => return held,
+            Err(free) => session = free,
+        }
+    }
+    unreachable!()
+}
+
+// Runs the operation by a held session. Where the map is full, the session is released for a renewal.
+fn change_held<R: Wait>(
+    rt: &R,
+    alloc: Global,
+    map: &GrowingMap,
+    held: Held,
+    op: Op,
+) -> (Held, Answer)
+    requires its_own { IsHeldOf map.now held }
+    requires updates { IsUpdate op }
+    requires fits { FitsWords op }
+    ensures { IsHeldOf map.now result.0 }
+{
+    let mut held = held;
+    for _ in rt.forever() {
+        let number = held.number();
+        match map.start(held, op, 1) {
+            Ok(ended) => return ended,
+            Err(StoppedHeld::Waits(pending)) => return to_end(rt, map, pending),
+            Err(StoppedHeld::Full(full)) => {
+                let session = map.release(full);
+                let _renewed = map.try_renew(alloc, Some(number), LOOKS);
+                held = hold(rt, map, session);
+            }
+        }
+    }
+    unreachable!()
+}
+
+fn to_end<R: Wait>(rt: &R, map: &GrowingMap, pending: PendingHeld) -> (Held, Answer)
+    requires { IsPendingOf map.now pending }
+    ensures { IsHeldOf map.now result.0 }
+{
+    let mut pending = pending;
+    for _ in rt.forever() {
+        match map.advance(pending, 1) {
+            Ok(ended) => return ended,
+            Err(waits) => pending = waits,
+        }
+        thread::yield_now();
+    }
+    unreachable!()
 }

@@ -2,7 +2,7 @@
 ghost use Rattle.blink_grow.specs.{IsSessionOf};
 
 use crate::same::same;
-use crate::shared::{apply, close, last};
+use crate::shared::{apply, apply_held, close, last};
 use blink_batch::{Answer, Op};
 use blink_grow::{GrowingMap, Session};
 use std::alloc::Global;
@@ -49,22 +49,33 @@ impl Four {
     }
 }
 
-// The thread's operation gives this; counted, if it doesn't.
+// The thread's operation gives this; counted, if it doesn't. Half of the threads wait in their calls, and half hold their session for
+// each operation.
 fn check<R: Wait>(
     rt: &R,
     alloc: Global,
     map: &GrowingMap,
-    session: &mut Session,
+    session: Session,
+    thread: u64,
     work: (Op, Answer),
     wrong: &AtomicU64,
-)
-    requires { IsSessionOf map.now session.old }
-    ensures { IsSessionOf map.now session.new }
+) -> Session
+    requires { IsSessionOf map.now session }
+    ensures { IsSessionOf map.now result }
 {
+    let mut session = session;
     let (op, expected) = work;
-    if apply(rt, alloc, map, session, op) != Ok(expected) {
+    let answer = if thread % 2 == 0 {
+        apply(rt, alloc, map, &mut session, op)
+    } else {
+        let (released, answer) = apply_held(rt, alloc, map, session, op);
+        session = released;
+        Ok(answer)
+    };
+    if answer != Ok(expected) {
         wrong.fetch_add(1, Ordering::SeqCst);
     }
+    session
 }
 
 // Inserts the thread's keys, which are those with this remainder, in an order in which neighbours come far apart.
@@ -82,12 +93,12 @@ fn change_own<R: Wait>(
         if turn < KEYS {
             let key = key_of(turn, thread);
             let inserted = (Op::Insert(key, turn), Answer::Inserted);
-            check(rt, alloc, map, &mut session, inserted, wrong);
+            session = check(rt, alloc, map, session, thread, inserted, wrong);
         }
         if turn >= LATER && turn % 4 != 0 {
             let key = key_of(turn - LATER, thread);
             let removed = (Op::Delete(key), Answer::Removed(turn - LATER));
-            check(rt, alloc, map, &mut session, removed, wrong);
+            session = check(rt, alloc, map, session, thread, removed, wrong);
         }
     }
     true
