@@ -254,7 +254,9 @@ int blink_index_run(blink_index *index, const blink_operation *operations, size_
  * BLINK_NO_MEMORY. Then the index and the answer are as they were. Otherwise the index has at most 22 pages more. */
 int blink_index_insert(blink_index *index, uint64_t key, uint64_t pointer, blink_answer *answer);
 
-/* Removes a key with its pointer in place: BLINK_REMOVED, or BLINK_ABSENT. It takes no memory. */
+/* Removes a key with its pointer in place: BLINK_REMOVED, or BLINK_ABSENT. It is never refused. Where more leaves are empty then than the
+ * entries fill, it packs the index as blink_index_compact does, so that scans walk few empty leaves. That takes the time of as many
+ * deletions as emptied them. Where memory for it is refused, the leaves stay, and a later deletion tries again. */
 void blink_index_delete(blink_index *index, uint64_t key, blink_answer *answer);
 
 /* Replaces the pointer of a key in place: BLINK_REPLACED, or BLINK_ABSENT. It takes no memory. */
@@ -265,13 +267,14 @@ void blink_index_replace(blink_index *index, uint64_t key, uint64_t pointer, bli
 void blink_index_exchange(blink_index *index, uint64_t key, uint64_t expected, uint64_t pointer, blink_answer *answer);
 
 /* Removes a key with its pointer in place, if that is `expected`: BLINK_REMOVED, and `expected`; BLINK_EXISTS, and the other
- * pointer that the key maps to; or BLINK_ABSENT. It takes no memory. */
+ * pointer that the key maps to; or BLINK_ABSENT. It packs the index as blink_index_delete does. */
 void blink_index_delete_exact(blink_index *index, uint64_t key, uint64_t expected, blink_answer *answer);
 
 /* Carries operations out in place, one after another, up to the first that is refused, and gives the answer of each at its place. It
  * stores how many were carried out. The other places stay as they were. Refused: BLINK_WRONG_LENGTH, if there aren't as many places
  * for answers as operations, and then none is carried out; or, of the operation next to those carried out,
- * BLINK_UNKNOWN_OPERATION, BLINK_INDEX_TOO_LARGE or BLINK_NO_MEMORY. */
+ * BLINK_UNKNOWN_OPERATION, BLINK_INDEX_TOO_LARGE or BLINK_NO_MEMORY. After a deletion it packs the index as blink_index_delete
+ * does. */
 int blink_index_apply(blink_index *index, const blink_operation *operations, size_t count, blink_answer *answers,
                       size_t places, size_t *carried_out);
 

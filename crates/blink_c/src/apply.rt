@@ -7,11 +7,13 @@ use crate::index_handle::IndexHandle;
 use blink_owners::apply::apply;
 use blink_owners::raw::{RawAnswer, RawOperation};
 use blink_owners::refusal::{Code, code_of};
+use std::alloc::Global;
 
 /// Carries operations out in place, one after another, up to the first that is refused, and gives the answer of each at its
 /// place. It stores how many were carried out. The other places stay as they were.
 #[unsafe(no_mangle)]
 pub extern "C" fn blink_index_apply(
+    alloc: Global,
     index: &mut IndexHandle,
     operations: &[RawOperation],
     answers: &mut [RawAnswer],
@@ -23,5 +25,5 @@ pub extern "C" fn blink_index_apply(
     ensures refused { TellsWhy code_of
         (IsApplyRefusal index.new.value operations.now (length answers.old) carried_out.new) result }
 {
-    code_of(&apply(index.get(), operations, answers, carried_out))
+    code_of(&apply(alloc, index.get(), operations, answers, carried_out))
 }

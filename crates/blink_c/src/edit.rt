@@ -42,12 +42,17 @@ pub extern "C" fn blink_index_insert(
     }
 }
 
-/// Removes a key with its pointer in place, and gives the answer.
+/// Removes a key with its pointer in place, and gives the answer. It compacts the index where that is sparse then.
 #[unsafe(no_mangle)]
-pub extern "C" fn blink_index_delete(index: &mut IndexHandle, key: u64, answer: &mut RawAnswer)
+pub extern "C" fn blink_index_delete(
+    alloc: Global,
+    index: &mut IndexHandle,
+    key: u64,
+    answer: &mut RawAnswer,
+)
     ensures deleted { HasEdited index.old.value (Delete key) answer.new index.new.value }
 {
-    *answer = RawAnswer::of(index.get().delete(key));
+    *answer = RawAnswer::of(index.get().delete_and_compact(alloc, key));
 }
 
 /// Replaces the pointer of a key in place, and gives the answer.
@@ -78,9 +83,11 @@ pub extern "C" fn blink_index_exchange(
     *answer = RawAnswer::of(index.get().exchange(key, expected, pointer));
 }
 
-/// Removes a key with its pointer in place, if that is the expected one, and gives the answer.
+/// Removes a key with its pointer in place, if that is the expected one, and gives the answer. It compacts the index where that is
+/// sparse then.
 #[unsafe(no_mangle)]
 pub extern "C" fn blink_index_delete_exact(
+    alloc: Global,
     index: &mut IndexHandle,
     key: u64,
     expected: u64,
@@ -89,7 +96,7 @@ pub extern "C" fn blink_index_delete_exact(
     ensures deleted { HasEdited index.old.value (DeleteExact key expected) answer.new
         index.new.value }
 {
-    *answer = RawAnswer::of(index.get().delete_exact(key, expected));
+    *answer = RawAnswer::of(index.get().delete_exact_and_compact(alloc, key, expected));
 }
 
 /// Packs the entries into as few pages as they need, in place. A refusal leaves the index as it was.

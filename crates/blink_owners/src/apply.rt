@@ -5,9 +5,11 @@ ghost use Rattle.blink_owners.specs.Edits.{HasApplied, IsApplyRefusal};
 use crate::raw::{RawAnswer, RawOperation};
 use crate::refusal::Refusal;
 use blink_index::{EditError, Index};
+use std::alloc::Global;
 
-/// Carries the operations out up to the first that is refused.
+/// Carries the operations out up to the first that is refused. After a deletion it compacts the index where that is sparse.
 pub fn apply(
+    alloc: Global,
     index: &mut Index,
     operations: &[RawOperation],
     answers: &mut [RawAnswer],
@@ -27,7 +29,7 @@ pub fn apply(
         let Some(op) = operations[place].op() else {
             return Err(Refusal::UnknownOperation);
         };
-        match index.edit(op) {
+        match index.edit_and_compact(alloc, op) {
             Ok(answer) => answers[place] = RawAnswer::of(answer),
             Err(EditError::TooLarge) => return Err(Refusal::TooLarge),
             Err(EditError::OutOfMemory) => return Err(Refusal::OutOfMemory),

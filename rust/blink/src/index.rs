@@ -161,7 +161,20 @@ impl Index {
         Ok(Answer::of(given))
     }
 
-    /// Takes a key away in place, if it is there: [`Answer::Removed`] with its pointer, or [`Answer::Absent`]. It takes no memory.
+    /// Takes a key away in place, if it is there: [`Answer::Removed`] with its pointer, or [`Answer::Absent`]. It is never refused. Where
+    /// more leaves are empty then than the entries fill, it packs the index as [`Index::compact`] does, so that scans walk few empty leaves.
+    /// Where memory for that is refused, the leaves stay, and a later removal tries again.
+    ///
+    /// ```
+    /// # use blink::Index;
+    /// let mut index = Index::from_sorted(4, (1..=100).map(|key| (key, key)))?;
+    /// assert_eq!(index.pages(), 35);
+    /// for key in 1..=90 {
+    ///     index.remove(key);
+    /// }
+    /// assert_eq!((index.len(), index.pages()), (10, 8));
+    /// # Ok::<(), blink::Error>(())
+    /// ```
     pub fn remove(&mut self, key: u64) -> Answer {
         let mut given = RawAnswer::NONE;
         // SAFETY: as in `insert`.
@@ -197,7 +210,7 @@ impl Index {
     }
 
     /// Takes a key away in place, if it maps to `expected`: [`Answer::Removed`] with `expected`. Else nothing changes:
-    /// [`Answer::Exists`] with what the key maps to, or [`Answer::Absent`]. It takes no memory.
+    /// [`Answer::Exists`] with what the key maps to, or [`Answer::Absent`]. It packs the index as [`Index::remove`] does.
     ///
     /// ```
     /// # use blink::{Answer, Index};
@@ -215,7 +228,8 @@ impl Index {
     }
 
     /// Carries operations out in place, one after another, up to the first that is refused. The operations before it stay carried
-    /// out, and their answers are there. Where memory for the answers is refused, none is carried out.
+    /// out, and their answers are there. Where memory for the answers is refused, none is carried out. After a removal
+    /// it packs the index as [`Index::remove`] does.
     ///
     /// ```
     /// use blink::{Answer, Index, Op};

@@ -56,8 +56,8 @@ impl Index {
         Ok(())
     }
 
-    /// Takes the entry of the least key away, and returns it. It takes no memory. Emptied leaves stay until [`Index::compact`], and the call
-    /// walks those before the entry.
+    /// Takes the entry of the least key away, and returns it. The call walks the empty leaves before the entry. It packs the index where
+    /// these become many, as [`Index::remove`] does.
     ///
     /// ```
     /// # use blink::Index;
@@ -80,7 +80,8 @@ impl Index {
         Some((key, pointer))
     }
 
-    /// Takes away each entry of the range that `keeps` doesn't want, in ascending order, and returns how many it took. It takes no memory.
+    /// Takes away each entry of the range that `keeps` doesn't want, in ascending order, and returns how many it took. It packs the
+    /// index as [`Index::remove`] does.
     ///
     /// ```
     /// # use blink::Index;

@@ -37,7 +37,7 @@ returns-in-Err-TooLarge-clause-refused c =
         there = ap (slice_get raws) c.loop-place.invariant.counted ∙ slice_get-get_or raws c.loop-place.place d c.loop-place-test.true;
         is_op = sym c.op.ensures ∙ c.in-Some.is;
       },
-      subst (IsEditRefusal c.edit.new.self c.in-Some.op) c.in-Err-TooLarge.field-0-is store,
+      subst (IsEditRefusal c.edit_and_compact.new.self c.in-Some.op) c.in-Err-TooLarge.field-0-is store,
     )
 
 pub returns-in-Err-OutOfMemory-clause-refused : goal.returns-in-Err-OutOfMemory-clause-refused
@@ -52,7 +52,7 @@ returns-in-Err-OutOfMemory-clause-refused c =
         there = ap (slice_get raws) c.loop-place.invariant.counted ∙ slice_get-get_or raws c.loop-place.place d c.loop-place-test.true;
         is_op = sym c.op.ensures ∙ c.in-Some.is;
       },
-      subst (IsEditRefusal c.edit.new.self c.in-Some.op) c.in-Err-OutOfMemory.field-0-is store,
+      subst (IsEditRefusal c.edit_and_compact.new.self c.in-Some.op) c.in-Err-OutOfMemory.field-0-is store,
     )
 
 -- one operation more is carried out
@@ -60,11 +60,11 @@ pub loop-place-preserved : goal.loop-place-preserved
 loop-place-preserved c =
     let d : RawOperation = record { kind = 0; key = 0; pointer = 0 } in
     let places : c.loop-place.place < length c.loop-place.answers = omega (arith, c.loop-place-test.true, c.loop-place.invariant.as_many) in
-    let more = one_more_applied c.args.index.now c.loop-place.index c.edit.new.self c.args.operations.now c.loop-place.place c.args.answers.now c.loop-place.answers d c.in-Some.op c.in-Ok.answer
+    let more = one_more_applied c.args.index.now c.loop-place.index c.edit_and_compact.new.self c.args.operations.now c.loop-place.place c.args.answers.now c.loop-place.answers d c.in-Some.op c.in-Ok.answer
     c.loop-place.invariant.applied c.loop-place-test.true places (sym c.op.ensures ∙ c.in-Some.is) c.in-Ok.ensures.answer c.in-Ok.ensures.map c.in-Ok.ensures.same_fan in
     record {
       applied = subst (λ (given : RawAnswer). HasApplied c.args.index.now c.args.operations.now (c.loop-place.place + 1) c.args.answers.now
-          (set c.loop-place.answers c.loop-place.place given) c.edit.new.self) (sym c.of.ensures) more;
+          (set c.loop-place.answers c.loop-place.place given) c.edit_and_compact.new.self) (sym c.of.ensures) more;
       as_many = length-set c.loop-place.answers c.loop-place.place c.of.result ∙ c.loop-place.invariant.as_many;
       counted = refl;
     }
