@@ -245,6 +245,17 @@ pub fn changes() {
         });
         println!("an insertion into an empty map, {threads} threads\t{insertion:.1}");
     }
+    let mut leaf = Index::new(32).expect("an index");
+    keys[..16].iter().for_each(|&key| _ = leaf.insert(key, !key).expect("memory"));
+    let map = Map::open(&leaf, Room { pages: 100, rows: 4_096 * THREADS as u32, sessions: THREADS as u32 }).expect("a map");
+    let hot = timed(sessions(&map, THREADS), CALLS, |mut session, thread| {
+        let mut random = Random(thread);
+        (0..CALLS / THREADS / 2).for_each(|turn| {
+            assert!(session.get(keys[random.below(16)]).is_some());
+            session.replace(keys[random.below(16)], turn as u64).expect("rows");
+        });
+    });
+    println!("50 finds, 50 replacements, all in one leaf of 16 entries, {THREADS} threads\t{hot:.1}");
     let mut batch = Index::new(32).expect("an index");
     let start = Instant::now();
     keys.iter().for_each(|&key| _ = batch.insert(key, !key).expect("memory"));
