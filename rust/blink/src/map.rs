@@ -728,8 +728,8 @@ impl<'map> Session<'map> {
     /// let map = Map::open(&Index::new(32)?, Room { pages: 200, rows: 400, sessions: 1 })?;
     /// let mut session = map.session()?;
     /// session.insert(5, 50)?;
-    /// // it has drawn half of the pool, and the insertion was appended to the leaf's row
-    /// assert_eq!(session.reserve(), Reserve { pages: 100, unwritten: 200, free: 0, taken_out: 0, waiting: 0 });
+    /// // it has drawn 64 page numbers and half of the rows, and the insertion was appended to the leaf's row
+    /// assert_eq!(session.reserve(), Reserve { pages: 64, unwritten: 200, free: 0, taken_out: 0, waiting: 0 });
     /// # Ok::<(), blink::Error>(())
     /// ```
     pub fn reserve(&mut self) -> Reserve {
