@@ -18,6 +18,24 @@ impl GrowingMap {
             (λ ended. IsAnsweredHeld self.now (op_of pending) (held_of pending) ended.0 ended.1) }
         ensures goes_on { IfErr result (GoesOn self.now pending) }
     {
+        let outcome = self.advance_in_current(pending, tries);
+        if let Ok((_, answer)) = &outcome {
+            self.count_waited(*answer);
+        }
+        outcome
+    }
+
+    // What `advance` does, but that no change is counted.
+    fn advance_in_current(
+        &self,
+        pending: PendingHeld,
+        tries: u32,
+    ) -> Result<(Held, Answer), PendingHeld>
+        requires its_own { IsPendingOf self.now pending }
+        ensures answered { IfOk result
+            (λ ended. IsAnsweredHeld self.now (op_of pending) (held_of pending) ended.0 ended.1) }
+        ensures goes_on { IfErr result (GoesOn self.now pending) }
+    {
         let PendingHeld {
             seat,
             slot,

@@ -7,6 +7,7 @@ ghost use Rattle.blink_grow.specs.Sessions.{IsAnswered, IsSameBesideSeen, IsSess
 
 use crate::error::GrowError;
 use crate::growing::{GrowingMap, Session};
+use crate::renew::Reason;
 use crate::waiting::RENEWALS;
 use blink_batch::{Answer, Op};
 use std::alloc::Global;
@@ -15,7 +16,8 @@ use std::sync::Wait;
 impl GrowingMap {
     /// Runs an operation that changes the map: an insertion, a deletion, a replacement, an exchange, or a deletion of an expected
     /// pointer. It answers as the operation does on a plain map (`Op`, `Answer`), and no other session changes the key between its test
-    /// and its change. Where the session finds no room for it in the current map, the call renews the map, and takes memory then. It
+    /// and its change. Where the session finds no room for it in the current map, the call renews the map, and takes memory then. So it
+    /// does after a removal, where many leaves may be empty by then (`renew_if_worn`), and answers whether the map was renewed or not. It
     /// waits as a change of a map of `blink_map` does, and while the map is renewed.
     ///
     /// The call refuses with `OutOfMemory`, if memory was refused when the map was to be renewed; with `TooLarge`, if the entries leave
@@ -38,8 +40,11 @@ impl GrowingMap {
     {
         for _ in 0..RENEWALS {
             match self.try_change(rt, session, op) {
-                Ok(answer) => return Ok(answer),
-                Err(number) => match self.renew_once(rt, alloc, Some(number)) {
+                Ok(answer) => {
+                    self.count_and_renew(alloc, op, answer);
+                    return Ok(answer);
+                }
+                Err(number) => match self.renew_once(rt, alloc, Reason::Full(number)) {
                     Ok(()) => {}
                     Err(refusal) => return Err(refusal),
                 },

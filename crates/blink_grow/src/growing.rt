@@ -7,7 +7,7 @@ use crate::error::GrowError;
 use crate::slots::{Current, Origin, RuleOfSlots, SlotView};
 use atomic_table::{Seat, Table};
 use std::alloc::Global;
-use std::sync::atomic::AtomicBool;
+use std::sync::atomic::{AtomicBool, AtomicU64};
 
 /// A map from `u64` to `u64` which grows. It is one map of `blink_map` after another: where the current one is full, its entries are
 /// packed, and another map is opened over them with more room. All calls wait meanwhile.
@@ -18,6 +18,12 @@ pub struct GrowingMap {
     // Whether somebody renews the map. Renewals are one after another by it, and a renewal gets the sessions before the next calls do.
     // No proof needs it.
     pub(crate) renewing: AtomicBool,
+    // About how many entries the map has had since it was opened or renewed last, with a few more for each session, and how many of them
+    // were removed. No proof needs them.
+    pub(crate) had: AtomicU64,
+    pub(crate) removed: AtomicU64,
+    // How many page numbers the current map has in all. No proof needs it.
+    pub(crate) numbers: AtomicU64,
     ghost words: { table.shared.table_id.words ≡ table.shared.table_id.slots },
     ghost some_slot: { 0 < table.shared.table_id.slots },
     ghost few_slots: { table.shared.table_id.slots ≤ 256 },

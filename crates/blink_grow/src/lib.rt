@@ -31,6 +31,7 @@ mod tell;
 #[cfg(test)]
 mod tests;
 mod waiting;
+mod worn;
 
 pub use blink_live::Scanned;
 pub use blink_map::Stock;

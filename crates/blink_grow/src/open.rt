@@ -9,8 +9,9 @@ ghost use Rattle.blink_grow.specs.Sessions.{IsSessionOf, opening_of, places_of};
 
 use crate::error::GrowError;
 use crate::growing::{GrowingMap, Session};
-use crate::room::room_over;
+use crate::room::{numbers_over, room_over};
 use crate::slots::{Current, Origin, PartWithFirst, RuleOfSlots, SlotView};
+use crate::worn::had_at_first;
 use atomic_table::{Seat, Table};
 use blink_index::Index;
 use blink_map::{Map, MapError};
@@ -18,7 +19,7 @@ use blink_page::MAX_FAN;
 use std::alloc::{AllocError, Global};
 use std::snapshot::Snapshot;
 use std::sync::Arc;
-use std::sync::atomic::AtomicBool;
+use std::sync::atomic::{AtomicBool, AtomicU64};
 
 // The greatest number of sessions.
 const MAX_SESSIONS: u32 = 256;
@@ -120,6 +121,7 @@ fn table_of(
         index: Snapshot::of(index),
         slots: slots.len() as u64,
     };
+    let numbers = numbers_over(index.page_count(), slots.len() as u32);
     match Table::<Option<Current>, SlotView, Origin, RuleOfSlots, Global>::new(
         alloc, &words, slots, &origin,
     ) {
@@ -128,6 +130,9 @@ fn table_of(
                 table,
                 fan: index.rest().store().fan(),
                 renewing: AtomicBool::new(false),
+                had: AtomicU64::new(had_at_first(index.len(), words.len())),
+                removed: AtomicU64::new(0),
+                numbers: AtomicU64::new(numbers),
             },
             seat,
         )),

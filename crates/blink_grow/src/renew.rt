@@ -17,6 +17,17 @@ use std::sync::Wait;
 use std::sync::atomic::Ordering;
 use std::thread;
 
+/// Why the map is renewed.
+#[derive(Clone, Copy)]
+pub(crate) enum Reason {
+    /// Somebody asks for it.
+    Asked,
+    /// The map of this number was found full.
+    Full(u64),
+    /// Many of its leaves may be empty.
+    Worn,
+}
+
 impl GrowingMap {
     /// Renews the map: its entries are packed into another map, with new room for changes. The map does so by itself where a change
     /// finds no room. Who calls it in good time, from a thread of his own, spares other threads the renewal, and not the pause: all
@@ -28,7 +39,7 @@ impl GrowingMap {
     pub fn renew<R: Wait>(&self, rt: &R, alloc: Global) -> Result<(), GrowError>
         ensures refused { IfErr result IsRefusal }
     {
-        self.renew_once(rt, alloc, None)
+        self.renew_once(rt, alloc, Reason::Asked)
     }
 
     /// Renews the map as `renew` does, and waits for nobody. It looks `looks` times for each session that is in a call, or held. Where
@@ -41,23 +52,27 @@ impl GrowingMap {
     pub fn try_renew(&self, alloc: Global, full: Option<u64>, looks: u32) -> Result<(), GrowError>
         ensures refused { IfErr result IsRefusal }
     {
-        match self.renew_unless_busy(alloc, full, looks) {
+        let reason = match full {
+            Some(number) => Reason::Full(number),
+            None => Reason::Asked,
+        };
+        match self.renew_unless_busy(alloc, reason, looks) {
             Some(outcome) => outcome,
             None if self.is_renewed_within(looks) => Ok(()),
             None => Err(GrowError::Busy),
         }
     }
 
-    // Renews the map, unless another thread does so, or has done so since the map of this number was found full.
+    // Renews the map, unless another thread does so, or it needn't be renewed any more.
     pub(crate) fn renew_once<R: Wait>(
         &self,
         rt: &R,
         alloc: Global,
-        full: Option<u64>,
+        reason: Reason,
     ) -> Result<(), GrowError>
         ensures refused { IfErr result IsRefusal }
     {
-        match self.renew_unless_busy(alloc, full, RENEWAL_LOOKS) {
+        match self.renew_unless_busy(alloc, reason, RENEWAL_LOOKS) {
             Some(outcome) => outcome,
             None => {
                 self.wait_for_renewal(rt);
@@ -66,11 +81,11 @@ impl GrowingMap {
         }
     }
 
-    // Renews the map, unless it has been renewed since the map of this number was found full. `None`, if another thread renews it.
-    fn renew_unless_busy(
+    // Renews the map, unless it needn't be renewed any more. `None`, if another thread renews it.
+    pub(crate) fn renew_unless_busy(
         &self,
         alloc: Global,
-        full: Option<u64>,
+        reason: Reason,
         looks: u32,
     ) -> Option<Result<(), GrowError>>
         ensures refused { IfSome result (λ outcome. IfErr outcome IsRefusal) }
@@ -78,7 +93,7 @@ impl GrowingMap {
         if self.renewing.swap(true, Ordering::SeqCst) {
             return None;
         }
-        let outcome = self.renew_alone(alloc, full, looks);
+        let outcome = self.renew_alone(alloc, reason, looks);
         self.renewing.store(false, Ordering::SeqCst);
         Some(outcome)
     }
@@ -94,8 +109,8 @@ impl GrowingMap {
         false
     }
 
-    // Renews the map, unless its number is another one by now.
-    fn renew_alone(&self, alloc: Global, full: Option<u64>, looks: u32) -> Result<(), GrowError>
+    // Renews the map, unless it was renewed since it was found full, or few of its leaves are empty.
+    fn renew_alone(&self, alloc: Global, reason: Reason, looks: u32) -> Result<(), GrowError>
         ensures refused { IfErr result IsRefusal }
     {
         let Begun {
@@ -106,11 +121,12 @@ impl GrowingMap {
             Ok(begun) => begun,
             Err(refusal) => return Err(refusal),
         };
-        let renewed = match full {
-            Some(number) => number != lead.number,
-            None => false,
+        let stays = match reason {
+            Reason::Asked => false,
+            Reason::Full(number) => number != lead.number,
+            Reason::Worn => !self.is_worn(&lead.map),
         };
-        if renewed {
+        if stays {
             self.give_all(&mut seat, lead, others);
             return Ok(());
         }
@@ -141,6 +157,7 @@ impl GrowingMap {
                 tell_all(&mut lead, others);
                 let next = self.switch(seat, next);
                 self.give_all(seat, next, next_others);
+                self.begin_count(&index);
                 Ok(())
             }
             Err(refusal) => {

@@ -31,3 +31,14 @@ pub(crate) fn room_over(pages: u32, sessions: u32) -> Option<Room>
         sessions,
     })
 }
+
+/// How many page numbers a map has in all that is opened over so many pages with that room.
+pub(crate) fn numbers_over(pages: u32, sessions: u32) -> u64
+    requires pages { pages ≤ MAX_PAGE }
+    requires sessions { sessions ≤ 256 }
+{
+    match room_over(pages, sessions) {
+        Some(room) => u64::from(pages) + u64::from(room.pages),
+        None => 0,
+    }
+}

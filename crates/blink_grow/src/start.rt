@@ -25,6 +25,26 @@ impl GrowingMap {
         ensures answered { IfOk result (λ ended. IsAnsweredHeld self.now op held ended.0 ended.1) }
         ensures stopped { IfErr result (HasStopped self.now op held) }
     {
+        let outcome = self.start_in_current(held, op, tries);
+        if let Ok((_, answer)) = &outcome {
+            self.count(op, *answer);
+        }
+        outcome
+    }
+
+    // What `start` does, but that no change is counted.
+    fn start_in_current(
+        &self,
+        held: Held,
+        op: Op,
+        tries: u32,
+    ) -> Result<(Held, Answer), StoppedHeld>
+        requires its_own { IsHeldOf self.now held }
+        requires updates { IsUpdate op }
+        requires fits { FitsWords op }
+        ensures answered { IfOk result (λ ended. IsAnsweredHeld self.now op held ended.0 ended.1) }
+        ensures stopped { IfErr result (HasStopped self.now op held) }
+    {
         let begun = Snapshot::of(&held);
         let Held {
             seat,

@@ -65,3 +65,52 @@ fn a_map_with_a_lost_session_stays_open(rt: HostRuntime) {
     assert_eq!(&rt; unclosed.refusal, GrowError::Busy);
     assert_eq!(&rt; unclosed.map.find(&rt, &mut one, 7), Some(70));
 }
+
+// Two sessions and the insertion make up for 2,049 removals. Where the map can't be renewed, the count begins anew.
+#[test]
+fn a_worn_map_is_renewed_once_no_session_is_held(rt: HostRuntime) {
+    let alloc = rt.alloc();
+    let (map, one, _other) = two(&rt, alloc);
+    let held = map.hold(&rt, one);
+    // as if so many pages were in use
+    map.numbers.store(100_000, Ordering::SeqCst);
+    map.had.store(2_048, Ordering::SeqCst);
+    map.removed.store(1_025, Ordering::SeqCst);
+    map.renew_if_worn(alloc, 2);
+    assert_eq!(&rt; held.number(), 0);
+    assert_eq!(&rt; map.had.load(Ordering::SeqCst), 1_023);
+    let one = map.release(held);
+    map.removed.store(511, Ordering::SeqCst);
+    map.renew_if_worn(alloc, 2);
+    let held = map.hold(&rt, one);
+    assert_eq!(&rt; held.number(), 0);
+    let one = map.release(held);
+    map.count_waited(Answer::Removed(7));
+    map.count_waited(Answer::Inserted);
+    map.count_waited(Answer::Absent);
+    assert_eq!(&rt; map.removed.load(Ordering::SeqCst), 512);
+    assert_eq!(&rt; map.had.load(Ordering::SeqCst), 1_024);
+    map.renew_if_worn(alloc, 2);
+    assert_eq!(&rt; map.removed.load(Ordering::SeqCst), 512);
+    map.count_waited(Answer::Removed(7));
+    map.renew_if_worn(alloc, 2);
+    assert_eq!(&rt; map.removed.load(Ordering::SeqCst), 0);
+    assert_eq!(&rt; map.had.load(Ordering::SeqCst), 2_049);
+    let mut held = map.hold(&rt, one);
+    assert_eq!(&rt; held.number(), 1);
+    assert_eq!(&rt; map.find_held(&mut held, 7), Some(70));
+}
+
+// The map uses one page, and the session has drawn 64 numbers. That is fewer than 1,019 entries need.
+#[test]
+fn a_map_of_few_pages_stays_though_much_was_removed(rt: HostRuntime) {
+    let alloc = rt.alloc();
+    let (map, one, _other) = two(&rt, alloc);
+    map.had.store(2_049, Ordering::SeqCst);
+    map.removed.store(1_030, Ordering::SeqCst);
+    map.renew_if_worn(alloc, 2);
+    assert_eq!(&rt; map.removed.load(Ordering::SeqCst), 0);
+    assert_eq!(&rt; map.had.load(Ordering::SeqCst), 1_019);
+    let held = map.hold(&rt, one);
+    assert_eq!(&rt; held.number(), 0);
+}

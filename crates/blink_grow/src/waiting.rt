@@ -13,3 +13,6 @@ pub(crate) const CLOSE_LOOKS: u32 = 1;
 
 // How often a snapshot of all keys is tried for the copy. Nobody changes the map meanwhile.
 pub(crate) const COPY_TRIES: u32 = 1;
+
+// How often a renewal after removals looks for a session. No answer depends on it.
+pub(crate) const WORN_LOOKS: u32 = 1_000;

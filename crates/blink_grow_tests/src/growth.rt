@@ -2,6 +2,9 @@
 use crate::same::{given, same};
 use crate::shared::Single;
 use blink_batch::{Answer, Op, Plain};
+use std::alloc::Global;
+use std::process::Abort;
+use std::sync::Wait;
 
 // The number after this one in a fixed sequence that looks like chance.
 fn next(drawn: u64) -> u64 {
@@ -84,4 +87,97 @@ fn a_renewed_map_has_its_entries(rt: HostRuntime) {
     map.call(&rt, alloc, Op::Delete(5), Answer::Removed(50));
     same(&rt, &map.renew(&rt, alloc), &Ok(()));
     map.call(&rt, alloc, Op::Find(5), Answer::Absent);
+}
+
+// Inserts keys and deletes each at once. So the map has one page, and is never full.
+fn come_and_go<R: Wait + Abort>(rt: &R, alloc: Global, map: &mut Single, from: u64, to: u64) {
+    for key in from..to {
+        map.call(rt, alloc, Op::Insert(key, 7), Answer::Inserted);
+        let delete = if key % 2 == 0 {
+            Op::Delete(key)
+        } else {
+            Op::DeleteExact(key, 7)
+        };
+        map.call(rt, alloc, delete, Answer::Removed(7));
+    }
+}
+
+// No leaf is emptied for good where keys come and go, so the map stays as it is.
+#[test]
+fn a_map_in_which_keys_come_and_go_stays(rt: HostRuntime) {
+    let alloc = rt.alloc();
+    let mut map = given(&rt, Single::new(&rt, alloc));
+    come_and_go(&rt, alloc, &mut map, 0, 4_000);
+    let (_map, number) = map.number(&rt);
+    same(&rt, &number, &0);
+}
+
+// So many keys are inserted, and all but a hundred deleted. The map uses some 260 pages then, of 32 entries each.
+const MANY: u64 = 6_000;
+
+const REMOVED: u64 = 5_900;
+
+// Each renewal but the last finds the map full. One removal of some sixteen is counted, so the last comes a few hundred sooner or later
+// than when 5,300 entries are removed.
+#[test]
+fn a_map_is_renewed_after_many_removals(rt: HostRuntime) {
+    let alloc = rt.alloc();
+    let mut map = given(&rt, Single::new(&rt, alloc));
+    for key in 0..MANY {
+        map.call(&rt, alloc, Op::Insert(key, 7), Answer::Inserted);
+    }
+    let (mut map, full) = map.number(&rt);
+    for key in 0..REMOVED {
+        map.call(&rt, alloc, Op::Delete(key), Answer::Removed(7));
+    }
+    let (_map, number) = map.number(&rt);
+    same(&rt, &number, &(full + 1));
+}
+
+const SHORT: u64 = 100;
+
+// Takes the key out of the queue, and puts another one in.
+fn pass_on<R: Wait + Abort>(rt: &R, alloc: Global, map: &mut Single, key: u64) {
+    map.call(rt, alloc, Op::Delete(key), Answer::Removed(key ^ 5));
+    let last = key.wrapping_add(SHORT);
+    map.call(rt, alloc, Op::Insert(last, last ^ 5), Answer::Inserted);
+}
+
+// A queue of a hundred entries, through ten thousand keys. For want of page numbers alone it would be renewed after each 4,000 or so, so
+// twice; where emptied leaves count, once more.
+#[test]
+fn a_queue_is_renewed_before_its_front_has_many_empty_leaves(rt: HostRuntime) {
+    let alloc = rt.alloc();
+    let mut map = given(&rt, Single::new(&rt, alloc));
+    for key in 0..SHORT {
+        map.call(&rt, alloc, Op::Insert(key, key ^ 5), Answer::Inserted);
+    }
+    for key in 0..10_000 {
+        pass_on(&rt, alloc, &mut map, key);
+    }
+    same(&rt, &map.first(&rt), &Some(10_000));
+    let (map, number) = map.number(&rt);
+    assert!(&rt; number > 2);
+    let entries = given(&rt, map.close(&rt, alloc).entries(alloc));
+    same(&rt, &entries.len(), &100);
+}
+
+// Nobody but the caller renews the map of a session that is held.
+#[test]
+fn removals_of_a_held_session_are_counted(rt: HostRuntime) {
+    let alloc = rt.alloc();
+    let mut map = given(&rt, Single::new(&rt, alloc));
+    for key in 0..MANY {
+        map = map.call_held(&rt, alloc, Op::Insert(key, 7), Answer::Inserted);
+    }
+    let (mut map, full) = map.number(&rt);
+    for key in 0..REMOVED {
+        map = map.call_held(&rt, alloc, Op::Delete(key), Answer::Removed(7));
+    }
+    let (map, number) = map.number(&rt);
+    same(&rt, &number, &full);
+    map.renew_if_worn(alloc);
+    map.renew_if_worn(alloc);
+    let (_map, number) = map.number(&rt);
+    same(&rt, &number, &(full + 1));
 }

@@ -68,6 +68,43 @@ impl Single {
         self.map.renew(rt, alloc)
     }
 
+    // The number of the current map: how often there was a renewal.
+    pub(crate) fn number<R: Wait>(self, rt: &R) -> (Single, u64) {
+        let Single { map, session } = self;
+        let held = map.hold(rt, session);
+        let number = held.number();
+        let session = map.release(held);
+        (Single { map, session }, number)
+    }
+
+    // Renews the map where that is due after removals.
+    pub(crate) fn renew_if_worn(&self, alloc: Global) {
+        self.map.renew_if_worn(alloc, LOOKS);
+    }
+
+    // The least key.
+    pub(crate) fn first<R: Wait>(&mut self, rt: &R) -> Option<u64> {
+        let Single { map, session } = self;
+        match map.first(rt, session) {
+            Some(entry) => Some(entry.key),
+            None => None,
+        }
+    }
+
+    // The operation gives this, by calls that wait for nobody.
+    pub(crate) fn call_held<R: Wait + Abort>(
+        self,
+        rt: &R,
+        alloc: Global,
+        op: Op,
+        expected: Answer,
+    ) -> Single {
+        let Single { map, session } = self;
+        let (session, answer) = apply_held(rt, alloc, &map, session, op);
+        same_for(rt, &answer, &expected, &op);
+        Single { map, session }
+    }
+
     // Closes the map with the session; without it, if memory for the list is refused.
     pub(crate) fn close(self, rt: &impl Abort, alloc: Global) -> Index {
         let Single { map, session } = self;

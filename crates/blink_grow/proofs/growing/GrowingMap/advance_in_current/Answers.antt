@@ -14,7 +14,7 @@ use Rattle.blink_grow.specs.Sessions.{opening_of as opening_of_growing}
 use Rattle.blink_grow.specs.Steps.{past_of}
 use Rattle.blink_grow.proofs.CallsOfSessions.{held_with, key_fits, saw_answer}
 use Rattle.blink_grow.proofs.HeldSessions.{answers_whole, held_again, held_moved}
-use Rattle.blink_grow.proofs.growing.GrowingMap.advance.Goals as goal
+use Rattle.blink_grow.proofs.growing.GrowingMap.advance_in_current.Goals as goal
 
 pub invariant_of-held : goal.invariant_of-held
 invariant_of-held c =

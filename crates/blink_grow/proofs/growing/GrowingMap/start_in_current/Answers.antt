@@ -3,7 +3,7 @@ use Rattle.blink_map.specs.declared.map.Map.{Map}
 use Rattle.blink_map.specs.{AnswersInOrder, HasStopped, opening_of}
 use Rattle.blink_grow.proofs.CallsOfSessions.{has_tried, key_fits, saw_answer}
 use Rattle.blink_grow.proofs.HeldSessions.{answers_whole, held_again, knows_more}
-use Rattle.blink_grow.proofs.growing.GrowingMap.start.Goals as goal
+use Rattle.blink_grow.proofs.growing.GrowingMap.start_in_current.Goals as goal
 
 pub invariant_of-held : goal.invariant_of-held
 invariant_of-held c =
