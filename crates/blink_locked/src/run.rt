@@ -93,18 +93,16 @@ fn run_workers<B: Origin + Send + Sync, R: Threads + Wait + Sync, G: Gate + Sync
 ) -> Result<(), RunError>
     ensures { IfErr result (IsStartRefusal cut.now.workers) }
 {
-    let lanes = cut.lanes();
-    let workers = cut.workers();
     thread::scope(
         thread::scope_env(),
         rt,
         move |scope| -> Result<(), RunError>
-            ensures { IfErr result (IsStartRefusal workers) }
+            ensures { IfErr result (IsStartRefusal cut.entry.now.workers) }
         {
-            let Ok(mut handles) = Vec::with_capacity(alloc, usize::from(workers)) else {
+            let Ok(mut handles) = Vec::with_capacity(alloc, usize::from(cut.workers())) else {
                 return Err(RunError::OutOfMemory);
             };
-            let started = start_all(scope, rt, gate, locked_run, lanes, workers, &mut handles);
+            let started = start_all(scope, rt, gate, locked_run, cut, &mut handles);
             if started.is_err() {
                 locked_run.stop(rt);
             }
@@ -119,17 +117,17 @@ fn start_all<'s, E, B: Origin + Send + Sync, R: Threads + Wait + Sync, G: Gate +
     rt: &'s R,
     gate: &'s G,
     locked_run: &'s LockedRun<B>,
-    lanes: &'s [u8],
-    workers: u8,
+    cut: &'s Cut,
     handles: &mut Vec<PromisedHandle<(), IsOf>>,
 ) -> Result<(), RunError>
     requires none_yet { handles.old.items ≡ [] }
-    requires room { workers ≤ vec_capacity handles.old }
+    requires room { cut.now.workers ≤ vec_capacity handles.old }
     ensures its_own { AtEach (λ worker handle. handle.promise.worker ≡ worker) handles.new.items }
-    ensures all { OnOk result (length handles.new.items ≡ workers) }
-    ensures refused { IfErr result (TellsNext handles.new.items workers) }
+    ensures all { OnOk result (length handles.new.items ≡ cut.now.workers) }
+    ensures refused { IfErr result (TellsNext handles.new.items cut.now.workers) }
 {
-    for worker in 0..workers {
+    let lanes = cut.lanes();
+    for worker in 0..cut.workers() {
         match scope.spawn_with(
             IsOf { worker },
             move || locked_run.run_lane(rt, gate, worker, lanes),

@@ -6,6 +6,6 @@ use Rattle.blink_locked.proofs.run.start_all.Given as goal
 abbrev pub invariant-loop-worker : goal.invariant-loop-worker
 invariant-loop-worker g l = record {
   as_many : length l.handles.items ≡ l.worker;
-  room : l.workers ≤ vec_capacity l.handles;
+  room : l.cut.workers ≤ vec_capacity l.handles;
   its_own : AtEach (λ worker handle. handle.promise.worker ≡ worker) l.handles.items;
 }
