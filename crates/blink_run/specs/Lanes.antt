@@ -11,6 +11,7 @@ use Rattle.blink_live.specs.declared.Keeper.{Keeper}
 use Rattle.blink_live.specs.declared.Live.{Live}
 use Rattle.blink_live.specs.declared.Pass.{Pass}
 use Rattle.blink_live.specs.{inserts_left, deletes_left, NoneIsTaken, IsKeeperOf, IsPassOf, keys_of, opening_of, passes_dealt, passes_out, seen_by, share_of, taken_of}
+use Rattle.blink_run.specs.declared.live.LiveRun.{LiveRun}
 use Rattle.blink_run.specs.declared.live.lane.LaneRun.{LaneRun}
 use Rattle.blink_run.specs.declared.live.needs.Needs.{Needs}
 use Rattle.blink_run.specs.declared.live.threads.RunsLane.{RunsLane}
@@ -124,9 +125,9 @@ pub record IsPassAfter (live : Live) (op : Op) (old new : Pass) : Type 0 where
 
 -- ---- all lanes
 
--- the promise of another worker's thread
-abbrev pub with_worker : RunsLane → ℕ → RunsLane
-with_worker first worker = record first { worker = worker }
+-- the promise of a worker's thread in a run
+abbrev pub promise_of : LiveRun → ℕ → RunsLane
+promise_of live_run worker = record { live_run = live_run; worker = worker }
 
 -- each of this many workers has a run, and each lane's run may begin
 pub record MayRunAll (live : Live) (ops : List Op) (workers : ℕ) (lanes : List ℕ) (runs : List LaneRun) : Type 0 where

@@ -27,6 +27,15 @@ use std::sync::Wait;
 use std::thread::Threads;
 use threads::run_all;
 
+/// A batch's run at a table of words, as all its workers share it: the table, the batch, and the cut that gives each worker its
+/// lane.
+#[derive(Clone, Copy)]
+pub(crate) struct LiveRun<'a> {
+    pub live: &'a Live,
+    pub batch: &'a Batch,
+    pub cut: &'a Cut,
+}
+
 /// Runs the batch at a table of words, each lane with a pass of its own.
 pub(crate) fn run_live<R: Threads + Wait + Sync, G: Gate + Sync>(
     rt: &R,
@@ -53,7 +62,12 @@ pub(crate) fn run_live<R: Threads + Wait + Sync, G: Gate + Sync>(
         Err(LiveError::TooLarge) => return Err(RunError::TooLarge),
         Err(_) => return Err(RunError::OutOfMemory),
     };
-    let (passes, answers) = run_passes(rt, alloc, &live, &mut keeper, batch, cut, gate)?;
+    let live_run = LiveRun {
+        live: &live,
+        batch,
+        cut,
+    };
+    let (passes, answers) = run_passes(rt, alloc, live_run, &mut keeper, gate)?;
     match live.close(alloc, keeper, passes) {
         Ok(closed) => {
             entries_ascend(index);
@@ -70,24 +84,25 @@ pub(crate) fn run_live<R: Threads + Wait + Sync, G: Gate + Sync>(
 fn run_passes<R: Threads + Wait + Sync, G: Gate + Sync>(
     rt: &R,
     alloc: Global,
-    live: &Live,
+    live_run: LiveRun<'_>,
     keeper: &mut Keeper,
-    batch: &Batch,
-    cut: &Cut,
     gate: &G,
 ) -> Result<(Vec<Pass>, Vec<Answer>), RunError>
-    requires cut { IsLawfulCut batch.now cut.now.workers cut.now.lanes }
-    requires keeper { IsNewKeeper live.now batch.now keeper.old }
-    ensures run { IfOk result (λ done. HaveRunLanes live.now batch.now cut.now.workers cut.now.lanes
-        done.0.items done.1.items) }
-    ensures dealt { IfOk result (λ _. HasDealtAll live.now batch.now cut.now.workers keeper.new) }
-    ensures refused { IfErr result (IsStartRefusal cut.now.workers) }
+    requires cut { IsLawfulCut live_run.batch.now live_run.cut.now.workers live_run.cut.now.lanes }
+    requires keeper { IsNewKeeper live_run.live.now live_run.batch.now keeper.old }
+    ensures run { IfOk result
+        (λ done. HaveRunLanes live_run.entry.live.now live_run.entry.batch.now
+        live_run.entry.cut.now.workers live_run.entry.cut.now.lanes done.0.items done.1.items) }
+    ensures dealt { IfOk result
+        (λ _. HasDealtAll live_run.entry.live.now live_run.entry.batch.now
+        live_run.entry.cut.now.workers keeper.new) }
+    ensures refused { IfErr result (IsStartRefusal live_run.entry.cut.now.workers) }
 {
-    let Ok(runs) = deal_all(alloc, live, keeper, batch, cut) else {
+    let Ok(runs) = deal_all(alloc, live_run, keeper) else {
         return Err(RunError::OutOfMemory);
     };
-    let ended = run_all(rt, alloc, live, gate, batch, cut, runs)?;
-    let Ok(answers) = answers_by_place(alloc, cut, &ended) else {
+    let ended = run_all(rt, alloc, live_run, gate, runs)?;
+    let Ok(answers) = answers_by_place(alloc, live_run.cut, &ended) else {
         return Err(RunError::OutOfMemory);
     };
     match passes_of(alloc, ended) {

@@ -4,29 +4,30 @@ ghost use Rattle.blink_batch.specs.{IsLawfulCut};
 ghost use Rattle.blink_live.specs.{HasDealt, IsDealt, LacksAllowance, NoneIsTaken, IsKeeperOf, taken_of};
 ghost use Rattle.blink_run.specs.Lanes.{HasDealtAll, HasDealtBefore, IsNewKeeper, MayRun, MayRunAll, lane_ops};
 
+use crate::live::LiveRun;
 use crate::live::lane::LaneRun;
 use crate::live::needs::Needs;
-use blink_batch::{Batch, Cut};
 use blink_live::{Keeper, Live, LiveError};
 use std::alloc::{AllocError, Global};
 
 /// Makes a run for each worker's lane, with room for its answers and a pass for its keys.
 pub(crate) fn deal_all(
     alloc: Global,
-    live: &Live,
+    live_run: LiveRun<'_>,
     keeper: &mut Keeper,
-    batch: &Batch,
-    cut: &Cut,
 ) -> Result<Vec<LaneRun>, AllocError>
-    requires cut { IsLawfulCut batch.now cut.now.workers cut.now.lanes }
-    requires keeper { IsNewKeeper live.now batch.now keeper.old }
+    requires cut { IsLawfulCut live_run.batch.now live_run.cut.now.workers live_run.cut.now.lanes }
+    requires keeper { IsNewKeeper live_run.live.now live_run.batch.now keeper.old }
     ensures runs { IfOk result
-        (λ runs. MayRunAll live.now batch.now cut.now.workers cut.now.lanes runs.items) }
-    ensures keeper { OnOk result (HasDealtAll live.now batch.now cut.now.workers keeper.new) }
+        (λ runs. MayRunAll live_run.entry.live.now live_run.entry.batch.now
+        live_run.entry.cut.now.workers live_run.entry.cut.now.lanes runs.items) }
+    ensures keeper { OnOk result (HasDealtAll live_run.entry.live.now live_run.entry.batch.now
+        live_run.entry.cut.now.workers keeper.new) }
 {
-    let mut runs = Vec::with_capacity(alloc, usize::from(cut.workers()))?;
-    for worker in 0..cut.workers() {
-        runs.push_reserved(deal_lane(alloc, live, keeper, batch, cut, worker)?);
+    let workers = live_run.cut.workers();
+    let mut runs = Vec::with_capacity(alloc, usize::from(workers))?;
+    for worker in 0..workers {
+        runs.push_reserved(deal_lane(alloc, live_run, keeper, worker)?);
     }
     Ok(runs)
 }
@@ -34,19 +35,20 @@ pub(crate) fn deal_all(
 // Makes the run of a worker's lane.
 fn deal_lane(
     alloc: Global,
-    live: &Live,
+    live_run: LiveRun<'_>,
     keeper: &mut Keeper,
-    batch: &Batch,
-    cut: &Cut,
     worker: u8,
 ) -> Result<LaneRun, AllocError>
-    requires cut { IsLawfulCut batch.now cut.now.workers cut.now.lanes }
-    requires worker { worker < cut.now.workers }
-    requires before { HasDealtBefore live.now batch.now cut.now.lanes worker keeper.old }
-    ensures run { IfOk result (MayRun live.now (lane_ops batch.now cut.now.lanes worker)) }
-    ensures dealt { OnOk result
-        (HasDealtBefore live.now batch.now cut.now.lanes (worker + 1) keeper.new) }
+    requires cut { IsLawfulCut live_run.batch.now live_run.cut.now.workers live_run.cut.now.lanes }
+    requires worker { worker < live_run.cut.now.workers }
+    requires before { HasDealtBefore live_run.live.now live_run.batch.now live_run.cut.now.lanes
+        worker keeper.old }
+    ensures run { IfOk result (MayRun live_run.entry.live.now
+        (lane_ops live_run.entry.batch.now live_run.entry.cut.now.lanes worker)) }
+    ensures dealt { OnOk result (HasDealtBefore live_run.entry.live.now live_run.entry.batch.now
+        live_run.entry.cut.now.lanes (worker + 1) keeper.new) }
 {
+    let LiveRun { live, batch, cut } = live_run;
     let needs = Needs::of(alloc, batch, cut.lanes(), worker)?;
     deal(alloc, live, keeper, needs)
 }

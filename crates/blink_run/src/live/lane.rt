@@ -4,7 +4,8 @@ ghost use Rattle.blink_batch.specs.{is_insert, answer_of, key_of};
 ghost use Rattle.blink_live.specs.{inserts_left, deletes_left, IsPassOf, keys_of, share_of};
 ghost use Rattle.blink_run.specs.Lanes.{CanRun, HasRun, IsPassAfter, MayRun, uses_deletion, lane_ops};
 
-use blink_batch::{Answer, Batch, Op};
+use crate::live::LiveRun;
+use blink_batch::{Answer, Op};
 use blink_live::{Live, Pass, PassError};
 use blink_locked::Gate;
 use std::sync::Wait;
@@ -21,21 +22,22 @@ impl LaneRun {
     pub(crate) fn to_end<R: Wait, G: Gate>(
         mut self,
         rt: &R,
-        live: &Live,
+        live_run: LiveRun<'_>,
         gate: &G,
-        batch: &Batch,
-        lanes: &[u8],
         worker: u8,
     ) -> LaneRun
-        requires a_lane_each { length lanes.now ≡ length batch.now }
-        requires may { MayRun live.now (lane_ops batch.now lanes.now worker) self }
-        ensures { HasRun live.now (lane_ops batch.now lanes.now worker) result }
+        requires a_lane_each { length live_run.cut.now.lanes ≡ length live_run.batch.now }
+        requires may { MayRun live_run.live.now
+            (lane_ops live_run.batch.now live_run.cut.now.lanes worker) self }
+        ensures { HasRun live_run.entry.live.now
+            (lane_ops live_run.entry.batch.now live_run.entry.cut.now.lanes worker) result }
     {
-        let ops = batch.ops();
+        let ops = live_run.batch.ops();
+        let lanes = live_run.cut.lanes();
         for place in 0..lanes.len() {
             if lanes[place] == worker {
                 gate.before(worker, place as u32);
-                self.run(rt, live, ops[place]);
+                self.run(rt, live_run.live, ops[place]);
                 gate.after(worker, place as u32);
             }
         }

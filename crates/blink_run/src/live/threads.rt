@@ -1,12 +1,11 @@
 //! The threads of the lanes, one for each.
 ghost use Rattle.std.specs.Prelude.{◌≡◌, ◌≤◌, [], length, vec_capacity, vec_len, IfErr, IfOk, OnOk};
 ghost use Rattle.std.specs.List.{AllZip};
-ghost use Rattle.blink_run.specs.Lanes.{HasRun, HaveRun, HaveRunBy, MayRun, MayRunAll, lane_ops, with_worker};
+ghost use Rattle.blink_run.specs.Lanes.{HasRun, HaveRunBy, MayRun, MayRunAll, lane_ops, promise_of};
 ghost use Rattle.blink_locked.specs.{AtEach, IsStartRefusal, TellsNext};
 
+use crate::live::LiveRun;
 use crate::live::lane::LaneRun;
-use blink_batch::{Batch, Cut};
-use blink_live::Live;
 use blink_locked::Gate;
 use blink_settings::RunError;
 use std::alloc::Global;
@@ -16,14 +15,13 @@ use std::thread::{self, Promise, PromisedHandle, Scope, Threads};
 /// The promise of a worker's thread: its lane has run to its end.
 #[derive(Clone, Copy)]
 struct RunsLane<'a> {
-    live: &'a Live,
-    batch: &'a Batch,
-    lanes: &'a [u8],
+    live_run: LiveRun<'a>,
     worker: u8,
 }
 
 impl<'a> Promise<LaneRun> for RunsLane<'a> {
-    ghost kept_by = { λ promise run. HasRun promise.live.now (lane_ops promise.batch.now promise.lanes.now promise.worker) run };
+    ghost kept_by = { λ promise run. HasRun promise.live_run.live.now
+        (lane_ops promise.live_run.batch.now promise.live_run.cut.now.lanes promise.worker) run };
 }
 
 /// Runs each worker's lane to its end, in a thread of its own, and returns when all have ended.
@@ -33,42 +31,38 @@ impl<'a> Promise<LaneRun> for RunsLane<'a> {
 pub(crate) fn run_all<R: Threads + Wait + Sync, G: Gate + Sync>(
     rt: &R,
     alloc: Global,
-    live: &Live,
+    live_run: LiveRun<'_>,
     gate: &G,
-    batch: &Batch,
-    cut: &Cut,
     runs: Vec<LaneRun>,
 ) -> Result<Vec<LaneRun>, RunError>
-    requires a_lane_each { length cut.now.lanes ≡ length batch.now }
-    requires may { MayRunAll live.now batch.now cut.now.workers cut.now.lanes runs.items }
-    ensures ended { IfOk result (λ ended. HaveRunBy live.now batch.now cut.now ended.items) }
-    ensures refused { IfErr result (IsStartRefusal cut.now.workers) }
+    requires a_lane_each { length live_run.cut.now.lanes ≡ length live_run.batch.now }
+    requires may { MayRunAll live_run.live.now live_run.batch.now live_run.cut.now.workers
+        live_run.cut.now.lanes runs.items }
+    ensures ended { IfOk result (λ ended.
+        HaveRunBy live_run.entry.live.now live_run.entry.batch.now live_run.entry.cut.now ended.items) }
+    ensures refused { IfErr result (IsStartRefusal live_run.entry.cut.now.workers) }
 {
-    let lanes = cut.lanes();
-    let workers = cut.workers();
+    // Captured one by one: of a captured struct of references the closure's clauses wouldn't be known here.
+    let LiveRun { live, batch, cut } = live_run;
     thread::scope(
         thread::scope_env(),
         rt,
         move |scope| -> Result<Vec<LaneRun>, RunError>
-            requires a_lane_each { length lanes.now ≡ length batch.now }
-            requires may { MayRunAll live.now batch.now workers lanes.now runs.items }
-            ensures ended { IfOk result (λ ended.
-                HaveRun live.entry.now batch.entry.now workers lanes.entry.now ended.items) }
-            ensures refused { IfErr result (IsStartRefusal workers) }
+            requires a_lane_each { length cut.now.lanes ≡ length batch.now }
+            requires may { MayRunAll live.now batch.now cut.now.workers cut.now.lanes runs.items }
+            ensures ended { IfOk result
+                (λ ended. HaveRunBy live.entry.now batch.entry.now cut.entry.now ended.items) }
+            ensures refused { IfErr result (IsStartRefusal cut.entry.now.workers) }
         {
-            let Ok(mut handles) = Vec::with_capacity(alloc, usize::from(workers)) else {
+            let workers = usize::from(cut.workers());
+            let Ok(mut handles) = Vec::with_capacity(alloc, workers) else {
                 return Err(RunError::OutOfMemory);
             };
-            let Ok(ended) = Vec::with_capacity(alloc, usize::from(workers)) else {
+            let Ok(ended) = Vec::with_capacity(alloc, workers) else {
                 return Err(RunError::OutOfMemory);
             };
-            let first = RunsLane {
-                live,
-                batch,
-                lanes,
-                worker: 0,
-            };
-            start_all(scope, rt, gate, first, workers, runs, &mut handles)?;
+            let live_run = LiveRun { live, batch, cut };
+            start_all(scope, rt, gate, live_run, runs, &mut handles)?;
             Ok(join_into(rt, handles, ended))
         },
     )
@@ -79,23 +73,25 @@ fn start_all<'s, E, R: Threads + Wait + Sync, G: Gate + Sync>(
     scope: &Scope<'s, E>,
     rt: &'s R,
     gate: &'s G,
-    first: RunsLane<'s>,
-    workers: u8,
+    live_run: LiveRun<'s>,
     runs: Vec<LaneRun>,
     handles: &mut Vec<PromisedHandle<LaneRun, RunsLane<'s>>>,
 ) -> Result<(), RunError>
-    requires a_lane_each { length first.lanes.now ≡ length first.batch.now }
-    requires may { MayRunAll first.live.now first.batch.now workers first.lanes.now runs.items }
+    requires a_lane_each { length live_run.cut.now.lanes ≡ length live_run.batch.now }
+    requires may { MayRunAll live_run.live.now live_run.batch.now live_run.cut.now.workers
+        live_run.cut.now.lanes runs.items }
     requires none_yet { handles.old.items ≡ [] }
-    requires room { workers ≤ vec_capacity handles.old }
-    ensures its_own { AtEach (λ worker handle. handle.promise ≡ with_worker first.entry worker)
+    requires room { live_run.cut.now.workers ≤ vec_capacity handles.old }
+    ensures its_own { AtEach (λ worker handle. handle.promise ≡ promise_of live_run.entry worker)
         handles.new.items }
-    ensures all { OnOk result (length handles.new.items ≡ workers) }
-    ensures refused { IfErr result (TellsNext handles.new.items workers) }
+    ensures all { OnOk result (length handles.new.items ≡ live_run.entry.cut.now.workers) }
+    ensures refused { IfErr result (TellsNext handles.new.items live_run.entry.cut.now.workers) }
 {
+    // Read for the proof: there are fewer than 256.
+    let _workers = live_run.cut.workers();
     for run in runs {
         let worker = handles.len() as u8;
-        let lane = RunsLane { worker, ..first };
+        let lane = RunsLane { live_run, worker };
         handles.push_reserved(start(scope, rt, gate, lane, run)?);
     }
     Ok(())
@@ -109,24 +105,23 @@ fn start<'s, E, R: Threads + Wait + Sync, G: Gate + Sync>(
     lane: RunsLane<'s>,
     run: LaneRun,
 ) -> Result<PromisedHandle<LaneRun, RunsLane<'s>>, RunError>
-    requires a_lane_each { length lane.lanes.now ≡ length lane.batch.now }
-    requires may { MayRun lane.live.now (lane_ops lane.batch.now lane.lanes.now lane.worker) run }
+    requires a_lane_each { length lane.live_run.cut.now.lanes ≡ length lane.live_run.batch.now }
+    requires may { MayRun lane.live_run.live.now
+        (lane_ops lane.live_run.batch.now lane.live_run.cut.now.lanes lane.worker) run }
     ensures promise { IfOk result (λ handle. handle.promise ≡ lane.entry) }
     ensures refused { IfErr result (λ error. error ≡ RunError.Worker lane.entry.worker) }
 {
-    let RunsLane {
-        live,
-        batch,
-        lanes,
-        worker,
-    } = lane;
+    // As in `run_all`.
+    let RunsLane { live_run, worker } = lane;
+    let LiveRun { live, batch, cut } = live_run;
     match scope.spawn_with(
         lane,
         move || -> LaneRun
-            requires a_lane_each { length lanes.now ≡ length batch.now }
-            requires may { MayRun live.now (lane_ops batch.now lanes.now worker) run }
-            ensures { HasRun live.entry.now (lane_ops batch.entry.now lanes.entry.now worker) result }
-        { run.to_end(rt, live, gate, batch, lanes, worker) },
+            requires a_lane_each { length cut.now.lanes ≡ length batch.now }
+            requires may { MayRun live.now (lane_ops batch.now cut.now.lanes worker) run }
+            ensures { HasRun live.entry.now
+                (lane_ops batch.entry.now cut.entry.now.lanes worker) result }
+        { run.to_end(rt, LiveRun { live, batch, cut }, gate, worker) },
     ) {
         Ok(handle) => Ok(handle),
         Err(_) => Err(RunError::Worker(lane.worker)),

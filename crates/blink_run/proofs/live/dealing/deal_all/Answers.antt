@@ -10,7 +10,7 @@ use Rattle.blink_run.proofs.live.dealing.deal_all.Goals as goal
 
 pub loop-worker-init : goal.loop-worker-init
 loop-worker-init c = record {
-  dealt = dealt_none c.args.live.now c.args.batch.now c.args.cut.now.lanes c.args.keeper.now c.requires.cut.a_lane_each c.requires.keeper;
+  dealt = dealt_none c.args.live_run.live.now c.args.live_run.batch.now c.args.live_run.cut.now.lanes c.args.keeper.now c.requires.cut.a_lane_each c.requires.keeper;
   as_many = c.in_ok-runs.ensures.len;
   each = λ worker run is. absurd (none-some run (ap (λ (runs : List LaneRun). slice_get runs worker) (sym c.in_ok-runs.ensures.items) ∙ is));
   room = omega (arith, c.in_ok-runs.ensures.capacity);
@@ -20,7 +20,7 @@ pub loop-worker-preserved : goal.loop-worker-preserved
 loop-worker-preserved c =
     let so_far = c.loop-worker.invariant in
     let run = c.in_ok-deal_lane.field-0 in
-    let MayRunLane : ℕ → LaneRun → Type 0 = λ worker run. MayRun c.args.live.now (lane_ops c.args.batch.now c.args.cut.now.lanes worker) run in
+    let MayRunLane : ℕ → LaneRun → Type 0 = λ worker run. MayRun c.args.live_run.live.now (lane_ops c.args.live_run.batch.now c.args.live_run.cut.now.lanes worker) run in
     let next : c.loop-worker.worker ≡ length c.loop-worker.runs.items = omega arith in
     record {
       dealt = c.in_ok-deal_lane.ensures.dealt;
@@ -30,5 +30,5 @@ loop-worker-preserved c =
     }
 
 pub returns-clause-keeper : goal.returns-clause-keeper
-returns-clause-keeper c = dealt_all c.args.live.now c.args.batch.now c.args.cut.now.lanes c.args.cut.now.workers c.loop-worker.keeper
-    (subst (λ (n : ℕ). HasDealtBefore c.args.live.now c.args.batch.now c.args.cut.now.lanes n c.loop-worker.keeper) (omega arith) c.loop-worker.invariant.dealt)
+returns-clause-keeper c = dealt_all c.args.live_run.live.now c.args.live_run.batch.now c.args.live_run.cut.now.lanes c.args.live_run.cut.now.workers c.loop-worker.keeper
+    (subst (λ (n : ℕ). HasDealtBefore c.args.live_run.live.now c.args.live_run.batch.now c.args.live_run.cut.now.lanes n c.loop-worker.keeper) (omega arith) c.loop-worker.invariant.dealt)

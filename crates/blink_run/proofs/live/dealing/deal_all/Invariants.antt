@@ -7,8 +7,8 @@ use Rattle.blink_run.proofs.live.dealing.deal_all.Given as goal
 
 abbrev pub invariant-loop-worker : goal.invariant-loop-worker
 invariant-loop-worker l = record {
-  dealt : HasDealtBefore l.live l.batch l.cut.lanes l.worker l.keeper;
+  dealt : HasDealtBefore l.live_run.live.now l.live_run.batch.now l.live_run.cut.now.lanes l.worker l.keeper;
   as_many : vec_len l.runs ≡ l.worker;
-  each : (worker : ℕ) (run : LaneRun) → slice_get l.runs.items worker ≡ Some run → MayRun l.live (lane_ops l.batch l.cut.lanes worker) run;
-  room : l.cut.workers ≤ vec_capacity l.runs;
+  each : (worker : ℕ) (run : LaneRun) → slice_get l.runs.items worker ≡ Some run → MayRun l.live_run.live.now (lane_ops l.live_run.batch.now l.live_run.cut.now.lanes worker) run;
+  room : l.live_run.cut.now.workers ≤ vec_capacity l.runs;
 }

@@ -3,7 +3,7 @@ use Rattle.std.specs.List.{slice_get}
 use Rattle.std.specs.Vec.Iter.{into_iter_items}
 use Rattle.std.proofs.lemmas.Option.{none-some}
 use Rattle.blink_run.specs.declared.live.lane.LaneRun.{LaneRun}
-use Rattle.blink_run.specs.Lanes.{MayRun, lane_ops, with_worker}
+use Rattle.blink_run.specs.Lanes.{MayRun, lane_ops, promise_of}
 use Rattle.blink_locked.specs.{AtEach}
 use Rattle.blink_locked.proofs.Offered.{each_from_first, each_left, each_more}
 use Rattle.blink_run.proofs.live.threads.start_all.Goals as goal
@@ -12,7 +12,7 @@ use Rattle.blink_run.proofs.live.threads.start_all.Goals as goal
 pub loop-run-init : goal.loop-run-init
 loop-run-init g c =
     let none : length c.args.handles.now.items ≡ 0 = rw c.requires.none_yet refl in
-    let MayRunAt : ℕ → LaneRun → Type 0 = λ worker run. MayRun c.args.first.live.now (lane_ops c.args.first.batch.now c.args.first.lanes.now worker) run in
+    let MayRunAt : ℕ → LaneRun → Type 0 = λ worker run. MayRun c.args.live_run.live.now (lane_ops c.args.live_run.batch.now c.args.live_run.cut.now.lanes worker) run in
     record {
       all_workers = omega (arith, none, c.into_iter-run-iterator.ensures.into_iter_gives.1, c.requires.may.as_many);
       room = c.requires.room;
@@ -23,7 +23,7 @@ loop-run-init g c =
 -- the run that is taken is the first of those left
 pub start-requires-clause-may : goal.start-requires-clause-may
 start-requires-clause-may g c κs within =
-    let MayRunAt : ℕ → LaneRun → Type 0 = λ worker run. MayRun c.args.first.live.now (lane_ops c.args.first.batch.now c.args.first.lanes.now worker) run in
+    let MayRunAt : ℕ → LaneRun → Type 0 = λ worker run. MayRun c.args.live_run.live.now (lane_ops c.args.live_run.batch.now c.args.live_run.cut.now.lanes worker) run in
     let started : ℕ = length c.loop-run.handles.items in
     let left = each_left MayRunAt started c.in-Some.run' (into_iter_items c.next.new.self)
     (subst (λ (runs : List LaneRun). AtEach (λ place run. MayRunAt (started + place) run) runs) c.in-Some.ensures.steps.0 c.loop-run.invariant.may) in
@@ -33,7 +33,7 @@ start-requires-clause-may g c κs within =
 -- and its handle is put where its worker stands
 pub loop-run-preserved : goal.loop-run-preserved
 loop-run-preserved g c =
-    let MayRunAt : ℕ → LaneRun → Type 0 = λ worker run. MayRun c.args.first.live.now (lane_ops c.args.first.batch.now c.args.first.lanes.now worker) run in
+    let MayRunAt : ℕ → LaneRun → Type 0 = λ worker run. MayRun c.args.live_run.live.now (lane_ops c.args.live_run.batch.now c.args.live_run.cut.now.lanes worker) run in
     let started : ℕ = length c.loop-run.handles.items in
     let left = each_left MayRunAt started c.in-Some.run' (into_iter_items c.next.new.self)
     (subst (λ (runs : List LaneRun). AtEach (λ place run. MayRunAt (started + place) run) runs) c.in-Some.ensures.steps.0 c.loop-run.invariant.may) in
@@ -42,6 +42,6 @@ loop-run-preserved g c =
     record {
       all_workers = omega (arith, c.in-Some.ensures.steps.1);
       room = omega arith;
-      its_own = rw c.push_reserved.ensures.items (each_more _ c.loop-run.handles.items c.in_ok-start.field-0 c.loop-run.invariant.its_own (c.in_ok-start.ensures.promise ∙ ap (λ (worker : ℕ). with_worker c.args.first worker) here));
+      its_own = rw c.push_reserved.ensures.items (each_more _ c.loop-run.handles.items c.in_ok-start.field-0 c.loop-run.invariant.its_own (c.in_ok-start.ensures.promise ∙ ap (λ (worker : ℕ). promise_of c.args.live_run worker) here));
       may = subst (λ (n : ℕ). AtEach (λ place run. MayRunAt (n + place) run) (into_iter_items c.next.new.self)) more left.1;
     }
