@@ -10,4 +10,4 @@ mod show;
 mod turns;
 mod words;
 
-pub use show::{serve_seed, serve_show};
+pub use show::{Template, serve_seed, serve_show};

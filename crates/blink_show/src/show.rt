@@ -17,25 +17,32 @@ use std::alloc::Global;
 use std::fmt::Write as _;
 use std::io::{Read, Write};
 
+/// The constant text around a replay: `head` stands before it, and `tail` behind it.
+#[derive(Clone, Copy, Debug)]
+pub struct Template<'a> {
+    pub head: &'a str,
+    pub tail: &'a str,
+}
+
 /// Reads a whole script and replays it, as [`blink_replay::serve_replay`] does. Each batch is cut by the remainders of the keys. The
 /// last batch takes a turn for each number of the schedule, and is then finished. The batches before it are finished at once.
 ///
-/// When all turns are taken, the call writes `head`, and then the workers and the fan. If the script has a batch, it writes the
-/// last batch's operations, a frame for its first tree state, and one for each turn of the schedule and of the finish. It ends
-/// with `tail`. The first frame has a line for the prime block, for each worker and for each page. Each other frame has the
-/// lines that have changed, and the operations that have decided since. A schedule with a number that isn't below the number of
-/// workers is refused before anything is read. After every error but `Output` nothing was written.
+/// When all turns are taken, the call writes the template's head, and then the workers and the fan. If the script has a batch, it
+/// writes the last batch's operations, a frame for its first tree state, and one for each turn of the schedule and of the finish.
+/// It ends with the template's tail. The first frame has a line for the prime block, for each worker and for each page. Each
+/// other frame has the lines that have changed, and the operations that have decided since. A schedule with a number that isn't
+/// below the number of workers is refused before anything is read. After every error but `Output` nothing was written.
 pub fn serve_show<R: Read, W: Write>(
     alloc: Global,
     reader: &mut R,
     writer: &mut W,
     settings: &Settings,
     schedule: &[u8],
-    head: &str,
-    tail: &str,
+    template: Template<'_>,
 ) -> Result<(), ServeError>
     ensures shown { OnOk result (WritesText
-        (IsShowText head.now tail.now settings.now.workers settings.now.fan schedule.now)
+        (IsShowText template.entry.head.now template.entry.tail.now
+        settings.now.workers settings.now.fan schedule.now)
         (R.remaining reader.old) (W.contents writer.old) (W.contents writer.new)) }
     ensures fault { IfErr result
         (TellsReplayFault settings.now.workers schedule.now (R.remaining reader.old)) }
@@ -44,7 +51,8 @@ pub fn serve_show<R: Read, W: Write>(
     ensures unread { (worker : _) → IsFirstNoWorker settings.now.workers schedule.now worker
         → reader.new ≡ reader.old }
     ensures left { IfErr result (λ error. LeavesShow
-        (IsShowText head.now tail.now settings.now.workers settings.now.fan schedule.now)
+        (IsShowText template.entry.head.now template.entry.tail.now
+        settings.now.workers settings.now.fan schedule.now)
         (R.remaining reader.old) error (W.contents writer.old) (W.contents writer.new)) }
 {
     match first_of_no_worker(schedule, settings.workers()) {
@@ -55,8 +63,7 @@ pub fn serve_show<R: Read, W: Write>(
             writer,
             settings,
             Turns::Schedule(schedule),
-            head,
-            tail,
+            template,
         ),
     }
 }
@@ -70,26 +77,19 @@ pub fn serve_seed<R: Read, W: Write>(
     writer: &mut W,
     settings: &Settings,
     seed: u64,
-    head: &str,
-    tail: &str,
+    template: Template<'_>,
 ) -> Result<(), ServeError>
     ensures shown { OnOk result (WritesText
-        (IsSeedText head.now tail.now settings.now.workers settings.now.fan seed)
+        (IsSeedText template.entry.head.now template.entry.tail.now
+        settings.now.workers settings.now.fan seed)
         (R.remaining reader.old) (W.contents writer.old) (W.contents writer.new)) }
     ensures fault { IfErr result (TellsWorkersFault (R.remaining reader.old)) }
     ensures left { IfErr result (λ error. LeavesShow
-        (IsSeedText head.now tail.now settings.now.workers settings.now.fan seed)
+        (IsSeedText template.entry.head.now template.entry.tail.now
+        settings.now.workers settings.now.fan seed)
         (R.remaining reader.old) error (W.contents writer.old) (W.contents writer.new)) }
 {
-    show_script(
-        alloc,
-        reader,
-        writer,
-        settings,
-        Turns::Seed(seed),
-        head,
-        tail,
-    )
+    show_script(alloc, reader, writer, settings, Turns::Seed(seed), template)
 }
 
 // Shows the script by the turns asked for, if each number of a schedule is a worker.
@@ -99,16 +99,17 @@ fn show_script<R: Read, W: Write>(
     writer: &mut W,
     settings: &Settings,
     turns: Turns<'_>,
-    head: &str,
-    tail: &str,
+    template: Template<'_>,
 ) -> Result<(), ServeError>
     requires { AreOfWorkers settings.now.workers turns }
     ensures shown { OnOk result (WritesText
-        (IsTextOf head.now tail.now settings.now.workers settings.now.fan (ShowsAsked turns.entry))
+        (IsTextOf template.entry.head.now template.entry.tail.now
+        settings.now.workers settings.now.fan (ShowsAsked turns.entry))
         (R.remaining reader.old) (W.contents writer.old) (W.contents writer.new)) }
     ensures fault { IfErr result (TellsWorkersFault (R.remaining reader.old)) }
     ensures left { IfErr result (λ error. LeavesShow
-        (IsTextOf head.now tail.now settings.now.workers settings.now.fan (ShowsAsked turns.entry))
+        (IsTextOf template.entry.head.now template.entry.tail.now
+        settings.now.workers settings.now.fan (ShowsAsked turns.entry))
         (R.remaining reader.old) error (W.contents writer.old) (W.contents writer.new)) }
 {
     let script = read_script(alloc, reader)?;
@@ -128,7 +129,7 @@ fn show_script<R: Read, W: Write>(
         turns,
         &mut text,
     )?;
-    write_replay(writer, head, &text, tail)
+    write_replay(writer, template.head, &text, template.tail)
 }
 
 // Adds the text of the last batch, over the tree that the parts before it leave.

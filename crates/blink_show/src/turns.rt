@@ -25,6 +25,14 @@ pub(crate) enum Turns<'a> {
     Seed(u64),
 }
 
+/// A turn that was taken: the word that its frame's heading begins with, its worker, and its result.
+#[derive(Clone, Copy)]
+struct TakenTurn<'a> {
+    word: &'a str,
+    worker: u8,
+    step: Step,
+}
+
 /// Adds the frame of the first tree state.
 pub(crate) fn show_first(
     alloc: Global,
@@ -82,7 +90,12 @@ fn show_schedule(
 {
     for &worker in schedule {
         let step = world.step(worker)?;
-        show_turn(alloc, "turn ", worker, step, world, shown, text)?;
+        let turn = TakenTurn {
+            word: "turn ",
+            worker,
+            step,
+        };
+        show_turn(alloc, turn, world, shown, text)?;
     }
     Ok(())
 }
@@ -106,7 +119,12 @@ fn show_drawn(
     let mut chance = SplitMix64::seed_from_u64(seed);
     while let Some(worker) = draw(alloc, world, owners, &mut chance)? {
         let step = world.step(worker)?;
-        show_turn(alloc, "turn ", worker, step, world, shown, text)?;
+        let turn = TakenTurn {
+            word: "turn ",
+            worker,
+            step,
+        };
+        show_turn(alloc, turn, world, shown, text)?;
     }
     Ok(())
 }
@@ -126,7 +144,12 @@ pub(crate) fn show_finish(
 {
     while let Some(worker) = world.pick() {
         let step = world.advance(worker)?;
-        show_turn(alloc, "finish ", worker, step, world, shown, text)?;
+        let turn = TakenTurn {
+            word: "finish ",
+            worker,
+            step,
+        };
+        show_turn(alloc, turn, world, shown, text)?;
     }
     Ok(())
 }
@@ -134,18 +157,17 @@ pub(crate) fn show_finish(
 // Adds the frame of the turn that has led to this world.
 fn show_turn(
     alloc: Global,
-    word: &str,
-    worker: u8,
-    step: Step,
+    turn: TakenTurn<'_>,
     world: &World,
     shown: &mut Shown,
     text: &mut String,
 ) -> Result<(), AllocError>
     ensures text { (before : PlainRun) → Keeps shown.old before → OnOk result (string_bytes text.new
-        ≡ string_bytes text.old ++ frame word.now before worker step world.now.run) }
+        ≡ string_bytes text.old
+        ++ frame turn.entry.word.now before turn.entry.worker turn.entry.step world.now.run) }
     ensures kept { OnOk result (Keeps shown.new world.now.run) }
 {
-    text.push_str(word)?;
-    push_turn(text, worker, step)?;
+    text.push_str(turn.word)?;
+    push_turn(text, turn.worker, turn.step)?;
     shown.show(alloc, world, text)
 }
