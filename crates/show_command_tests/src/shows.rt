@@ -2,7 +2,7 @@
 use crate::fixtures::{same_for, settings};
 use blink_batch::{RecordError, ScriptError};
 use blink_run::{CutKind, Driver, ServeError};
-use blink_show::{serve_seed, serve_show};
+use blink_show::{Template, serve_seed, serve_show};
 use blink_steps::StepError;
 use std::alloc::Global;
 use std::process::Abort;
@@ -30,20 +30,18 @@ impl Shown {
     }
 }
 
+// What each replay is written between.
+const BRACKETS: Template<'static> = Template {
+    head: "<\n",
+    tail: ">\n",
+};
+
 // What is written of a script's replay between `<` and `>`.
 fn replayed(rt: &impl Abort, alloc: Global, script: &str, workers: u8, schedule: &[u8]) -> Shown {
     let settings = settings(rt, (workers, 4), CutKind::Residue, Driver::Locked);
     let mut text = script.as_bytes();
     let mut output = Vec::new(alloc);
-    let end = serve_show(
-        alloc,
-        &mut text,
-        &mut output,
-        &settings,
-        schedule,
-        "<\n",
-        ">\n",
-    );
+    let end = serve_show(alloc, &mut text, &mut output, &settings, schedule, BRACKETS);
     Shown {
         output,
         end,
@@ -56,7 +54,7 @@ fn drawn(rt: &impl Abort, alloc: Global, script: &str, workers: u8, seed: u64) -
     let settings = settings(rt, (workers, 4), CutKind::Residue, Driver::Locked);
     let mut text = script.as_bytes();
     let mut output = Vec::new(alloc);
-    let end = serve_seed(alloc, &mut text, &mut output, &settings, seed, "<\n", ">\n");
+    let end = serve_seed(alloc, &mut text, &mut output, &settings, seed, BRACKETS);
     Shown {
         output,
         end,

@@ -4,6 +4,7 @@
 mod page;
 mod program;
 
+use blink_show::Template;
 use page::{HEAD, TAIL};
 use program::carry_out;
 use show_command::{ProgramError, end_of};
@@ -20,11 +21,14 @@ fn blink_show(rt: &(impl Env + Input + Print + AllocGlobal)) -> Result<(), Progr
     };
     let texts: Vec<&str> = words.iter().map(|word| word.as_str()).collect(alloc)?;
     let texts = texts.as_slice();
+    let template = Template {
+        head: HEAD,
+        tail: TAIL,
+    };
     carry_out(
         alloc,
         texts,
-        HEAD,
-        TAIL,
+        template,
         &mut rt.reader(),
         &mut io::writer(rt),
     )
