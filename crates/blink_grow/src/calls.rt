@@ -12,7 +12,7 @@ use crate::slots::{Current, Enter, Give, SlotView, Switch, Take};
 use atomic_table::Seat;
 use std::sync::Wait;
 use std::sync::atomic::Ordering;
-use std::thread;
+use std::{hint, thread};
 
 // The word of a slot in which a session lies, and of one that is taken.
 const FREE: u64 = 0;
@@ -127,7 +127,7 @@ impl GrowingMap {
             if let Some(held) = self.try_take(seat, slot) {
                 return Some(held);
             }
-            thread::yield_now();
+            hint::spin_loop();
         }
         None
     }

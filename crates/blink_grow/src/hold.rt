@@ -5,9 +5,9 @@ ghost use Rattle.blink_grow.specs.Sessions.{IsSameSession, IsSessionOf};
 
 use crate::growing::{GrowingMap, Session};
 use crate::held::Held;
+use std::hint;
 use std::sync::Wait;
 use std::sync::atomic::Ordering;
-use std::thread;
 
 impl GrowingMap {
     /// Holds a session, so that calls on it wait for nobody until it is released. It holds back a renewal and a close meanwhile, and
@@ -47,7 +47,7 @@ impl GrowingMap {
                     });
                 }
             }
-            thread::yield_now();
+            hint::spin_loop();
         }
         Err(Session { seat, slot })
     }

@@ -10,12 +10,12 @@ use crate::gather::tell_all;
 use crate::growing::GrowingMap;
 use crate::next::open_next;
 use crate::slots::{Current, SlotView};
-use crate::waiting::RENEWAL_LOOKS;
+use crate::waiting::{RENEWAL_LOOKS, RENEWAL_TRIES};
 use atomic_table::Seat;
 use std::alloc::Global;
 use std::sync::Wait;
 use std::sync::atomic::Ordering;
-use std::thread;
+use std::{hint, thread};
 
 /// Why the map is renewed.
 #[derive(Clone, Copy)]
@@ -72,13 +72,27 @@ impl GrowingMap {
     ) -> Result<(), GrowError>
         ensures refused { IfErr result IsRefusal }
     {
-        match self.renew_unless_busy(alloc, reason, RENEWAL_LOOKS) {
-            Some(outcome) => outcome,
-            None => {
-                self.wait_for_renewal(rt);
-                Ok(())
+        if self.renewing.swap(true, Ordering::SeqCst) {
+            self.wait_for_renewal(rt);
+            return Ok(());
+        }
+        let outcome = self.renew_patiently(alloc, reason);
+        self.renewing.store(false, Ordering::SeqCst);
+        outcome
+    }
+
+    // Tries so often to renew the map, and gives way to other threads between two tries, so that who is held up in a call goes on. No call
+    // begins meanwhile.
+    fn renew_patiently(&self, alloc: Global, reason: Reason) -> Result<(), GrowError>
+        ensures refused { IfErr result IsRefusal }
+    {
+        for _ in 0..RENEWAL_TRIES {
+            match self.renew_alone(alloc, reason, RENEWAL_LOOKS) {
+                Err(GrowError::Busy) => thread::yield_now(),
+                outcome => return outcome,
             }
         }
+        Err(GrowError::Busy)
     }
 
     // Renews the map, unless it needn't be renewed any more. `None`, if another thread renews it.
@@ -104,7 +118,7 @@ impl GrowingMap {
             if !self.renewing.load(Ordering::SeqCst) {
                 return true;
             }
-            thread::yield_now();
+            hint::spin_loop();
         }
         false
     }

@@ -4,9 +4,11 @@
 // costs a copy of all entries.
 pub(crate) const RENEWALS: u32 = 8;
 
-// How often a renewal looks for a session that a call has, before it gives up. It yields the processor between two looks, and all calls
-// wait meanwhile.
-pub(crate) const RENEWAL_LOOKS: u32 = 1_000_000;
+// How often a renewal looks for a session that a call has in one try, and how often it tries, before it gives up. It yields the processor
+// between two tries, since the thread of that call may have none. All calls wait meanwhile.
+pub(crate) const RENEWAL_LOOKS: u32 = 1_000;
+
+pub(crate) const RENEWAL_TRIES: u32 = 1_000;
 
 // The same of a close, when nobody is in a call. So a session that isn't in its slot at the first look stays away.
 pub(crate) const CLOSE_LOOKS: u32 = 1;
