@@ -19,3 +19,6 @@ pub mod SnapshotsAreGiven
 pub mod AnswersOfPuts
 pub mod DealFaults
 pub mod AppliedSoFar
+pub mod GrowingStays
+pub mod GrowingCross
+pub mod GrowingEnds

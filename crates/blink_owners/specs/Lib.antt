@@ -35,6 +35,10 @@ pub mod Sessions
 pub mod Codes
 pub mod TableCodes
 pub mod MapCodes
+pub mod GrowCodes
+-- a growing map and its sessions behind handles
+pub mod Growing
+pub mod GrowingSessions
 -- ---- files that no crate above names
 pub mod Raw
 pub mod Runs

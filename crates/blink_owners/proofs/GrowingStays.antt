@@ -1,0 +1,101 @@
+-- What a session of a growing map knows goes on from call to call.
+use Rattle.std.proofs.Common.{◌≡◌, ◌∙◌, List, ◌++◌, append_assoc, append-nil, [], ap, refl, sym, subst}
+use mathlib.Core.List.{IsPrefix}
+use Rattle.blink_batch.specs.declared.Answer.{Answer}
+use Rattle.blink_batch.specs.declared.Entry.{Entry}
+use Rattle.blink_batch.specs.declared.Op.{Op}
+use Rattle.std.specs.Prelude.{ℕ}
+use Rattle.blink_grow.specs.declared.growing.GrowingMap.{GrowingMap}
+use Rattle.blink_grow.specs.declared.growing.Session.{Session}
+use Rattle.blink_grow.specs.declared.held.Held.{Held}
+use Rattle.blink_grow.specs.declared.slots.Known.{Known}
+use Rattle.blink_grow.specs.{AnswersFrom, HasSamePlace, IsAnsweredHeld, IsContinued, IsHeldOf, IsSameSession, IsSessionOf, known_by, opening_of, place_of_held}
+use Rattle.blink_owners.specs.declared.growing_session_owner.GrowingSessionOwner.{GrowingSessionOwner}
+use Rattle.blink_owners.specs.declared.raw.RawAnswer.{RawAnswer}
+use Rattle.blink_owners.specs.Raw.{raw_answer}
+use Rattle.blink_owners.specs.GrowingSessions.{Answers, IsGripped, IsRested, KnowsSame, SeesMore, in_growing, known_in, place_in}
+
+pub prefix_through : {A : Type 0} (old mid new : List A) → IsPrefix old mid → IsPrefix mid new → IsPrefix old new
+prefix_through {A} old mid new one other = (one.0 ++ other.0, sym (append_assoc old one.0 other.0) ∙ (ap (λ (l : List A). l ++ other.0) one.1 ∙ other.1))
+
+pub same_prefix : {A : Type 0} (l : List A) → IsPrefix l l
+same_prefix l = ([], append-nil l)
+
+pub continued_through : (old mid new : Known) → IsContinued old mid → IsContinued mid new → IsContinued old new
+continued_through old mid new one other = record {
+  saw = prefix_through old.seen mid.seen new.seen one.saw other.saw;
+  made = one.made ∙ other.made;
+}
+
+pub continued_same : (old new : Known) → new ≡ old → IsContinued old new
+continued_same old new is = subst (λ (known : Known). IsContinued old known) (sym is) (record { saw = same_prefix old.seen; made = refl })
+
+-- the answer to one who knew more is one to him who knew less, and made the same
+pub answers_sooner : (opening : List Entry) (op : Op) (place : ℕ) (old mid new : Known) (answer : Answer) → IsContinued old mid → AnswersFrom opening op place mid new answer
+    → AnswersFrom opening op place old new answer
+answers_sooner opening op place old mid new answer on answers = record {
+  before = answers.before;
+  saw = prefix_through old.seen mid.seen answers.before on.saw answers.saw;
+  answers = answers.answers;
+  goes_on = answers.goes_on;
+  made = rw on.made answers.made;
+}
+
+-- ---- whose it is
+
+pub held_of_map : (map : GrowingMap) (old new : Held) → IsHeldOf map old → HasSamePlace old.seat old.slot new.seat new.slot → IsHeldOf map new
+held_of_map map old new its same = record { same_table = same.same_table ∙ its.same_table; same_first = same.same_first ∙ its.same_first }
+
+pub session_of_map : (map : GrowingMap) (old new : Session) → IsSessionOf map old → IsSameSession old new → IsSessionOf map new
+session_of_map map old new its same = record { same_table = same.same_slot.same_table ∙ its.same_table; same_first = same.same_slot.same_first ∙ its.same_first }
+
+-- ---- a session that is held for a call
+
+-- what a call has made of the held session is what the owner knows, once it is put back
+pub known_at_rest : (old mid new : GrowingSessionOwner) (held now : Held) → IsGripped old.held held → in_growing mid ≡ in_growing old → IsContinued (known_by held) (known_by now)
+    → place_of_held now ≡ place_of_held held → IsRested now mid new → SeesMore old new
+known_at_rest old mid new held now gripped same on place rested = record {
+  same = record { same_map = rested.same_map ∙ same; same_place = rested.same_place ∙ (place ∙ gripped.same_place) };
+  knows = subst (λ (known : Known). IsContinued (known_in old.held) known) (sym rested.knows)
+      (continued_through (known_in old.held) (known_by held) (known_by now) gripped.knows on);
+}
+
+-- an operation of a held session has ended, and the session is put back
+pub answered_at_rest : (old mid new : GrowingSessionOwner) (op : Op) (held now : Held) (answer : Answer) (given : RawAnswer) → IsGripped old.held held → in_growing mid ≡ in_growing old
+    → IsAnsweredHeld (in_growing old) op held now answer → IsRested now mid new → given ≡ raw_answer answer → Answers op old new given
+answered_at_rest old mid new op held now answer given gripped same answered rested is =
+    let place = answered.same_place.same_place ∙ gripped.same_place in
+    let order = answers_sooner (opening_of (in_growing old)) op (place_of_held held) (known_in old.held) (known_by held) (known_by now) answer gripped.knows answered.in_order in
+    let here : AnswersFrom (opening_of (in_growing old)) op (place_in old.held) (known_in old.held) (known_by now) answer =
+    subst (λ (place : ℕ). AnswersFrom (opening_of (in_growing old)) op place (known_in old.held) (known_by now) answer) gripped.same_place order in
+    record {
+      answer = answer;
+      its_answer = is;
+      in_order = subst (λ (known : Known). AnswersFrom (opening_of (in_growing old)) op (place_in old.held) (known_in old.held) known answer) (sym rested.knows) here;
+      same = record { same_map = rested.same_map ∙ same; same_place = rested.same_place ∙ place };
+    }
+
+pub sees_through : (old mid new : GrowingSessionOwner) → SeesMore old mid → SeesMore mid new → SeesMore old new
+sees_through old mid new one other = record {
+  same = record { same_map = other.same.same_map ∙ one.same.same_map; same_place = other.same.same_place ∙ one.same.same_place };
+  knows = continued_through (known_in old.held) (known_in mid.held) (known_in new.held) one.knows other.knows;
+}
+
+pub knows_same : (owner : GrowingSessionOwner) → KnowsSame owner owner
+knows_same owner = record { same = record { same_map = refl; same_place = refl }; knows = refl }
+
+pub sees_same : (old new : GrowingSessionOwner) → KnowsSame old new → SeesMore old new
+sees_same old new knows = record { same = knows.same; knows = continued_same (known_in old.held) (known_in new.held) knows.knows }
+
+-- an answer after renewals is one to him who began
+pub answers_through : (old mid new : GrowingSessionOwner) (op : Op) (given : RawAnswer) → SeesMore old mid → Answers op mid new given → Answers op old new given
+answers_through old mid new op given sees answers =
+    let opening : opening_of (in_growing mid) ≡ opening_of (in_growing old) = ap opening_of sees.same.same_map in
+    let order = subst (λ (first : List Entry). AnswersFrom first op (place_in mid.held) (known_in mid.held) (known_in new.held) answers.answer) opening answers.in_order in
+    let here = subst (λ (place : ℕ). AnswersFrom (opening_of (in_growing old)) op place (known_in mid.held) (known_in new.held) answers.answer) sees.same.same_place order in
+    record {
+      answer = answers.answer;
+      its_answer = answers.its_answer;
+      in_order = answers_sooner (opening_of (in_growing old)) op (place_in old.held) (known_in old.held) (known_in mid.held) (known_in new.held) answers.answer sees.knows here;
+      same = record { same_map = answers.same.same_map ∙ sees.same.same_map; same_place = answers.same.same_place ∙ sees.same.same_place };
+    }

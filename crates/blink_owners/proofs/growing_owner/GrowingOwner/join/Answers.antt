@@ -1,0 +1,20 @@
+use Rattle.std.proofs.Common.{◌≡◌, ◌∙◌, ap, refl, subst}
+use Rattle.std.specs.Arc.{arc_value}
+use Rattle.blink_grow.specs.declared.growing.GrowingMap.{GrowingMap}
+use Rattle.blink_grow.specs.{IsSessionOf}
+use Rattle.blink_owners.specs.declared.growing_session_owner.GrowingSessionOwner.{GrowingSessionOwner}
+use Rattle.blink_owners.specs.declared.shared_growing.SharedGrowing.{SharedGrowing}
+use Rattle.blink_owners.specs.Growing.{IsStateOf, growing_in}
+use Rattle.blink_owners.specs.GrowingSessions.{in_growing}
+use Rattle.blink_owners.proofs.growing_owner.GrowingOwner.join.Goals as goal
+
+pub returns-in-Some-clause-joined : goal.returns-in-Some-clause-joined
+returns-in-Some-clause-joined c =
+    let its : (arc_value c.in-Open.shared).map ≡ growing_in c.args.self.now = subst (IsStateOf (growing_in c.args.self.now)) c.in-Open.is c.requires.its_own in
+    let in_box = c.deref_mut.ensures.value in
+    record {
+      session = c.in-Some.session;
+      free = refl;
+      its_own = subst (λ (map : GrowingMap). IsSessionOf map c.in-Some.session) (c.deref.result.now.its_places ∙ (ap (λ (s : SharedGrowing). s.map) c.deref.ensures ∙ its)) c.in-Some.ensures.joined;
+      one_map = ap (λ (owner : GrowingSessionOwner). in_growing owner) in_box ∙ (c.in-Ok.ensures.map ∙ its);
+    }

@@ -1,0 +1,175 @@
+-- A session of a growing map behind a handle: what the calls make of it, and why they are refused. What a session has seen and made is
+-- what it knows (`Known`), whether it is free, held, or has an operation under way.
+use Rattle.std.specs.Prelude.{◌≡◌, ◌⊎◌, ℕ, List, [], ⊤}
+use Rattle.std.specs.Arc.{arc_value}
+use Rattle.blink_batch.specs.declared.Answer.{Answer}
+use Rattle.blink_batch.specs.declared.Entry.{Entry}
+use Rattle.blink_batch.specs.declared.Op.{Op}
+use Rattle.blink_batch.specs.{pointer_of}
+use Rattle.blink_live.specs.{after}
+use Rattle.blink_grow.specs.declared.growing.GrowingMap.{GrowingMap}
+use Rattle.blink_grow.specs.declared.growing.Session.{Session}
+use Rattle.blink_grow.specs.declared.held.Held.{Held}
+use Rattle.blink_grow.specs.declared.held.PendingHeld.{PendingHeld}
+use Rattle.blink_grow.specs.declared.slots.Known.{Known}
+use Rattle.blink_grow.specs.{AnswersFrom, HasBegun, IsContinued, IsHeldOf, IsPendingOf, IsSessionOf, held_of, known_by, known_to, op_of, opening_of, place_of, place_of_held}
+use Rattle.blink_owners.specs.declared.raw.RawAnswer.{RawAnswer}
+use Rattle.blink_owners.specs.declared.raw.RawScanned.{RawScanned}
+use Rattle.blink_owners.specs.declared.raw.RawTaken.{RawTaken}
+use Rattle.blink_owners.specs.declared.grow_refusal.GrowRefusal.{GrowRefusal}
+use Rattle.blink_owners.specs.declared.grow_refusal.GrowRefusal.TheVariants as refused
+use Rattle.blink_owners.specs.declared.growing_session_owner.GrowingHeld.{GrowingHeld}
+use Rattle.blink_owners.specs.declared.growing_session_owner.GrowingHeld.TheVariants as state
+use Rattle.blink_owners.specs.declared.growing_session_owner.GrowingHeld.TheVariants.{Free, Busy, Gone}
+use Rattle.blink_owners.specs.declared.growing_session_owner.GrowingSessionOwner.{GrowingSessionOwner}
+use Rattle.blink_owners.specs.declared.growing_session_owner.NotMade.{NotMade}
+use Rattle.blink_owners.specs.declared.growing_session_owner.NotMade.TheVariants.{Refused, Full}
+use Rattle.blink_owners.specs.Raw.{raw_answer, raw_shown}
+use Rattle.blink_owners.specs.Reports.{HasReported, HasReportedBack, TellsTaken}
+
+-- the map
+abbrev pub in_growing : GrowingSessionOwner → GrowingMap
+in_growing owner = (arc_value owner.shared).map
+
+-- what is held is of this map, and between two calls there is always something
+abbrev pub IsHeldBy : GrowingMap → GrowingHeld → Type 0
+IsHeldBy map (Free session) = IsSessionOf map session
+IsHeldBy map (state.Held held) = IsHeldOf map held
+IsHeldBy map (Busy pending) = IsPendingOf map pending
+IsHeldBy map Gone = ⊥
+
+-- a handle that a call has filled holds what is of its map
+abbrev pub IsOwnSession : GrowingSessionOwner → Type 0
+IsOwnSession owner = IsHeldBy (in_growing owner) owner.held
+
+-- what it knows: where an operation is under way, what it knew before
+abbrev pub known_in : GrowingHeld → Known
+known_in (Free session) = known_to session
+known_in (state.Held held) = known_by held
+known_in (Busy pending) = known_by (held_of pending)
+known_in Gone = record { seen = []; made = [] }
+
+-- the number of its place, by which its changes are known
+abbrev pub place_in : GrowingHeld → ℕ
+place_in (Free session) = place_of session
+place_in (state.Held held) = place_of_held held
+place_in (Busy pending) = place_of_held (held_of pending)
+place_in Gone = 0
+
+-- no operation is under way
+abbrev pub IsAtHand : GrowingHeld → Type 0
+IsAtHand (Busy pending) = ⊥
+IsAtHand Gone = ⊥
+IsAtHand held = ⊤
+
+-- the session is that of the same place, of the same map
+pub record IsOfSame (old new : GrowingSessionOwner) : Type 0 where
+  pub same_map : in_growing new ≡ in_growing old
+  pub same_place : place_in new.held ≡ place_in old.held
+
+-- it may have seen more, and has made no change
+pub record SeesMore (old new : GrowingSessionOwner) : Type 0 where
+  pub same : IsOfSame old new
+  pub knows : IsContinued (known_in old.held) (known_in new.held)
+
+-- it knows what it knew
+pub record KnowsSame (old new : GrowingSessionOwner) : Type 0 where
+  pub same : IsOfSame old new
+  pub knows : known_in new.held ≡ known_in old.held
+
+-- the session that is held now goes on from what was there
+pub record IsGripped (old : GrowingHeld) (held : Held) : Type 0 where
+  pub at_hand : IsAtHand old
+  pub same_place : place_of_held held ≡ place_in old
+  pub knows : IsContinued (known_in old) (known_by held)
+
+-- the held session is put back
+pub record IsRested (held : Held) (old new : GrowingSessionOwner) : Type 0 where
+  pub same_map : in_growing new ≡ in_growing old
+  pub same_place : place_in new.held ≡ place_of_held held
+  pub knows : known_in new.held ≡ known_by held
+
+-- why a session can't be held: the map was renewed, or about to be, at each look; or an operation is under way. It knows what it knew
+pub record IsAway (old new : GrowingSessionOwner) (refusal : GrowRefusal) : Type 0 where
+  pub stays : KnowsSame old new
+  pub why : (refusal ≡ refused.Busy) ⊎ ((refusal ≡ refused.UnderWay) × (new ≡ old))
+
+-- ---- look-ups
+
+-- the key is looked up after the changes that the session has seen by the end of the call
+pub record Finds (key : ℕ) (old new : GrowingSessionOwner) (given : RawAnswer) : Type 0 where
+  pub answer : given ≡ raw_shown (after (pointer_of (opening_of (in_growing old))) (known_in new.held).seen key)
+  pub sees : SeesMore old new
+
+-- a range is scanned
+pub record Scans (lo hi : ℕ) (old new : GrowingSessionOwner) (places filled : List Entry) (given : RawScanned) : Type 0 where
+  pub from : Known
+  pub sees_from : IsContinued (known_in old.held) from
+  pub reported : HasReported (opening_of (in_growing old)) from.seen (known_in new.held).seen lo hi places filled given
+  pub sees : SeesMore old new
+
+-- the same backwards
+pub record ScansBack (lo hi : ℕ) (old new : GrowingSessionOwner) (places filled : List Entry) (given : RawScanned) : Type 0 where
+  pub from : Known
+  pub sees_from : IsContinued (known_in old.held) from
+  pub reported : HasReportedBack (opening_of (in_growing old)) from.seen (known_in new.held).seen lo hi places filled given
+  pub sees : SeesMore old new
+
+-- a snapshot of a range is taken, or couldn't be
+pub record Takes (lo hi : ℕ) (old new : GrowingSessionOwner) (places filled : List Entry) (given : RawTaken) : Type 0 where
+  pub told : TellsTaken (opening_of (in_growing old)) (known_in new.held).seen lo hi places filled given
+  pub sees : SeesMore old new
+
+-- memory was refused; or the session can't be held
+abbrev pub IsTakeRefusal : GrowingSessionOwner → GrowingSessionOwner → GrowRefusal → Type 0
+IsTakeRefusal old new refusal = ((refusal ≡ refused.OutOfMemory) × SeesMore old new) ⊎ IsAway old new refusal
+
+-- ---- operations that change the map
+
+-- the operation of one who knew this has ended, with this answer
+pub record HasAnswered (op : Op) (place : ℕ) (before : Known) (old new : GrowingSessionOwner) (given : RawAnswer) : Type 0 where
+  pub answer : Answer
+  pub its_answer : given ≡ raw_answer answer
+  pub in_order : AnswersFrom (opening_of (in_growing old)) op place before (known_in new.held) answer
+  pub same : IsOfSame old new
+
+-- a session that was at hand has made this operation
+abbrev pub Answers : Op → GrowingSessionOwner → GrowingSessionOwner → RawAnswer → Type 0
+Answers op old new given = HasAnswered op (place_in old.held) (known_in old.held) old new given
+
+-- the operation has begun, and goes on at the next call
+pub record IsBusyWith (op : Op) (old new : GrowingSessionOwner) : Type 0 where
+  pub pending : PendingHeld
+  pub is : new.held ≡ Busy pending
+  pub same_op : op_of pending ≡ op
+  pub sees : SeesMore old new
+
+-- why the operation hasn't ended: it goes on at the next call; or it isn't made, and the session may have seen more
+abbrev pub IsChangeRefusal : Op → GrowingSessionOwner → GrowingSessionOwner → GrowRefusal → Type 0
+IsChangeRefusal op old new refused.UnderWay = IsBusyWith op old new ⊎ (new ≡ old)
+IsChangeRefusal op old new refusal =
+    ((refusal ≡ refused.OutOfMemory) ⊎ (refusal ≡ refused.TooLarge) ⊎ (refusal ≡ refused.Busy) ⊎ (refusal ≡ refused.RowsBusy)) × SeesMore old new
+
+-- the same of one map: or this is full
+abbrev pub IsNotMade : Op → GrowingSessionOwner → GrowingSessionOwner → NotMade → Type 0
+IsNotMade op old new (Refused refusal) = IsChangeRefusal op old new refusal
+IsNotMade op old new (Full number) = SeesMore old new
+
+-- ---- an operation that goes on
+
+-- it has ended, with this answer
+abbrev pub EndsFrom : GrowingHeld → GrowingSessionOwner → GrowingSessionOwner → RawAnswer → Type 0
+EndsFrom (Busy pending) old new given = HasAnswered (op_of pending) (place_in old.held) (known_in old.held) old new given
+EndsFrom held old new given = ⊥
+
+-- the operation is under way still
+pub record StaysBusy (before : PendingHeld) (old new : GrowingSessionOwner) : Type 0 where
+  pub now : PendingHeld
+  pub is : new.held ≡ Busy now
+  pub same_op : op_of now ≡ op_of before
+  pub same : KnowsSame old new
+
+-- it hasn't ended, or there is none, and then nothing changes
+abbrev pub IsAdvanceRefusal : GrowingHeld → GrowingSessionOwner → GrowingSessionOwner → GrowRefusal → Type 0
+IsAdvanceRefusal (Busy pending) old new refusal = (refusal ≡ refused.UnderWay) × StaysBusy pending old new
+IsAdvanceRefusal held old new refusal = (refusal ≡ refused.Idle) × (new ≡ old)

@@ -1,0 +1,74 @@
+//! The refusals of the exports of growing maps and of their sessions.
+ghost use Rattle.std.specs.Prelude.{◌≡◌};
+ghost use Rattle.blink_owners.specs.Codes.{code_of_outcome};
+ghost use Rattle.blink_owners.specs.GrowCodes.{code_of, refusal_of};
+
+use crate::refusal::{Code, DONE};
+use blink_grow::GrowError;
+
+/// Why a call on a growing map or its session is refused.
+#[derive(Clone, Copy, Debug, PartialEq, Eq)]
+pub enum GrowRefusal {
+    /// Memory was refused.
+    OutOfMemory,
+    /// The entries leave too few of the 1,048,575 page numbers.
+    TooLarge,
+    /// A map has 1 to 256 sessions.
+    Sessions,
+    /// No session rests at any place.
+    NoSession,
+    /// The map is being renewed; or it can't be, since a session is held or in a call.
+    Busy,
+    /// The session has enough rows in all, but some are on their way back.
+    RowsBusy,
+    /// The handle of a session, or another one of the map, isn't freed.
+    Missing,
+    /// The session has an operation under way.
+    UnderWay,
+    /// The session has no operation under way.
+    Idle,
+    /// A close of the map has begun.
+    Closed,
+}
+
+impl GrowRefusal {
+    /// The refusal of a call of `blink_grow`.
+    pub fn of(refusal: GrowError) -> GrowRefusal
+        ensures { result ≡ refusal_of refusal }
+    {
+        match refusal {
+            GrowError::OutOfMemory => GrowRefusal::OutOfMemory,
+            GrowError::TooLarge => GrowRefusal::TooLarge,
+            GrowError::Sessions => GrowRefusal::Sessions,
+            GrowError::Busy => GrowRefusal::Busy,
+        }
+    }
+
+    /// The refusal's code.
+    pub fn code(&self) -> Code
+        ensures { result ≡ code_of self.now }
+    {
+        match self {
+            GrowRefusal::OutOfMemory => 41,
+            GrowRefusal::TooLarge => 101,
+            GrowRefusal::Sessions => 102,
+            GrowRefusal::NoSession => 103,
+            GrowRefusal::Busy => 109,
+            GrowRefusal::RowsBusy => 107,
+            GrowRefusal::Missing => 106,
+            GrowRefusal::UnderWay => 90,
+            GrowRefusal::Idle => 91,
+            GrowRefusal::Closed => 108,
+        }
+    }
+}
+
+/// The code that an export returns.
+pub fn code_of(outcome: &Result<(), GrowRefusal>) -> Code
+    ensures { result ≡ code_of_outcome code_of outcome.now }
+{
+    match outcome {
+        Ok(()) => DONE,
+        Err(refusal) => refusal.code(),
+    }
+}

@@ -1,0 +1,326 @@
+//! What the box of the handle of a growing map's session holds: an owner of the map, and the session or its operation.
+ghost use Rattle.std.specs.Prelude.{◌≡◌, IfErr, IfOk, OnErr, OnOk};
+ghost use Rattle.blink_batch.specs.{FitsWords};
+ghost use Rattle.blink_grow.specs.{IsHeldOf, IsPendingOf, IsUpdate};
+ghost use Rattle.blink_owners.specs.GrowingSessions.{Answers, EndsFrom, Finds, IsAdvanceRefusal, IsAway, IsChangeRefusal, IsGripped, IsNotMade, IsOwnSession, IsRested, IsTakeRefusal, SeesMore, Scans, ScansBack, Takes, in_growing};
+
+use crate::grow_refusal::GrowRefusal;
+use crate::raw::{RawAnswer, RawScanned, RawTaken};
+use crate::shared_growing::SharedGrowing;
+use blink_batch::{Entry, Op};
+use blink_grow::{Held, PendingHeld, Session, StoppedHeld};
+use std::alloc::Global;
+use std::mem;
+use std::sync::Arc;
+
+// How often a change renews the map. Once is enough, unless other sessions use up all the new room before the change is made.
+const RENEWALS: u32 = 8;
+
+/// A session: free, held, or with an operation under way. Within a call it may be gone.
+#[derive(Drop)]
+pub enum GrowingHeld {
+    Free(Session),
+    Held(Held),
+    Busy(PendingHeld),
+    Gone,
+}
+
+/// A session with an owner of its map, so that its thread needs nothing else.
+#[derive(Drop)]
+pub struct GrowingSessionOwner {
+    /// The map, with the places of its sessions.
+    pub shared: Arc<SharedGrowing>,
+    /// Whether the session stays held between calls.
+    pub keeps: bool,
+    /// The session, or its operation.
+    pub held: GrowingHeld,
+}
+
+impl GrowingSessionOwner {
+    /// Looks any key up.
+    pub fn find(
+        &mut self,
+        key: u64,
+        tries: u32,
+        answer: &mut RawAnswer,
+    ) -> Result<(), GrowRefusal>
+        requires its_own { IsOwnSession self.old }
+        ensures its_own { IsOwnSession self.new }
+        ensures found { OnOk result (Finds key self.old self.new answer.new) }
+        ensures refused { IfErr result (IsAway self.old self.new) }
+        ensures unchanged { OnErr result (answer.new ≡ answer.old) }
+    {
+        let mut held = self.grip(tries)?;
+        let shown = self.shared.map.find_held(&mut held, key);
+        self.rest(held);
+        *answer = RawAnswer::shown(shown);
+        Ok(())
+    }
+
+    /// Scans a range of keys.
+    pub fn scan(
+        &mut self,
+        range: (u64, u64),
+        tries: u32,
+        entries: &mut [Entry],
+        scanned: &mut RawScanned,
+    ) -> Result<(), GrowRefusal>
+        requires its_own { IsOwnSession self.old }
+        ensures its_own { IsOwnSession self.new }
+        ensures scanned { OnOk result
+            (Scans range.0 range.1 self.old self.new entries.old entries.new scanned.new) }
+        ensures refused { IfErr result (IsAway self.old self.new) }
+        ensures unchanged { OnErr result
+            ((entries.new ≡ entries.old) × (scanned.new ≡ scanned.old)) }
+    {
+        let mut held = self.grip(tries)?;
+        let (lo, hi) = range;
+        let came = self.shared.map.scan_held(&mut held, lo, hi, entries);
+        self.rest(held);
+        *scanned = RawScanned::of(came);
+        Ok(())
+    }
+
+    /// Scans a range of keys backwards.
+    pub fn scan_back(
+        &mut self,
+        range: (u64, u64),
+        tries: u32,
+        entries: &mut [Entry],
+        scanned: &mut RawScanned,
+    ) -> Result<(), GrowRefusal>
+        requires its_own { IsOwnSession self.old }
+        ensures its_own { IsOwnSession self.new }
+        ensures scanned { OnOk result
+            (ScansBack range.0 range.1 self.old self.new entries.old entries.new scanned.new) }
+        ensures refused { IfErr result (IsAway self.old self.new) }
+        ensures unchanged { OnErr result
+            ((entries.new ≡ entries.old) × (scanned.new ≡ scanned.old)) }
+    {
+        let mut held = self.grip(tries)?;
+        let (lo, hi) = range;
+        let came = self.shared.map.scan_back_held(&mut held, lo, hi, entries);
+        self.rest(held);
+        *scanned = RawScanned::of(came);
+        Ok(())
+    }
+
+    /// Takes a snapshot of a range of keys.
+    pub fn snapshot(
+        &mut self,
+        alloc: Global,
+        range: (u64, u64),
+        tries: u32,
+        entries: &mut [Entry],
+        taken: &mut RawTaken,
+    ) -> Result<(), GrowRefusal>
+        requires its_own { IsOwnSession self.old }
+        ensures its_own { IsOwnSession self.new }
+        ensures taken { OnOk result
+            (Takes range.0 range.1 self.old self.new entries.old entries.new taken.new) }
+        ensures refused { IfErr result (IsTakeRefusal self.old self.new) }
+        ensures unchanged { OnErr result
+            ((entries.new ≡ entries.old) × (taken.new ≡ taken.old)) }
+    {
+        let mut held = self.grip(tries)?;
+        let (lo, hi) = range;
+        let found = self.shared.map.snapshot_held(alloc, &mut held, lo, hi, tries);
+        self.rest(held);
+        match found {
+            Ok(found) => {
+                *taken = RawTaken::of(&found, entries);
+                Ok(())
+            }
+            Err(_) => Err(GrowRefusal::OutOfMemory),
+        }
+    }
+
+    /// Begins an operation that changes the map, and takes its steps (`GrowingMap::start` of `blink_grow`). Where the map is full, the
+    /// call renews it, and begins again.
+    pub fn change(
+        &mut self,
+        alloc: Global,
+        op: Op,
+        tries: u32,
+        answer: &mut RawAnswer,
+    ) -> Result<(), GrowRefusal>
+        requires its_own { IsOwnSession self.old }
+        requires updates { IsUpdate op }
+        requires fits { FitsWords op }
+        ensures its_own { IsOwnSession self.new }
+        ensures answered { OnOk result (Answers op self.old self.new answer.new) }
+        ensures refused { IfErr result (IsChangeRefusal op self.old self.new) }
+        ensures unchanged { OnErr result (answer.new ≡ answer.old) }
+    {
+        for _ in 0..RENEWALS {
+            match self.try_change(op, tries, answer) {
+                Ok(()) => return Ok(()),
+                Err(NotMade::Refused(refusal)) => return Err(refusal),
+                Err(NotMade::Full(number)) => {
+                    if let Err(refusal) = self.shared.map.try_renew(alloc, Some(number), tries) {
+                        return Err(GrowRefusal::of(refusal));
+                    }
+                }
+            }
+        }
+        Err(GrowRefusal::Busy)
+    }
+
+    // Begins an operation in the current map, and takes its steps. Where the session lacks room for it there, it is free then.
+    fn try_change(&mut self, op: Op, tries: u32, answer: &mut RawAnswer) -> Result<(), NotMade>
+        requires its_own { IsOwnSession self.old }
+        requires updates { IsUpdate op }
+        requires fits { FitsWords op }
+        ensures its_own { IsOwnSession self.new }
+        ensures answered { OnOk result (Answers op self.old self.new answer.new) }
+        ensures refused { IfErr result (IsNotMade op self.old self.new) }
+        ensures unchanged { OnErr result (answer.new ≡ answer.old) }
+    {
+        let held = match self.grip(tries) {
+            Ok(held) => held,
+            Err(refusal) => return Err(NotMade::Refused(refusal)),
+        };
+        match self.shared.map.start(held, op, tries) {
+            Ok((held, given)) => {
+                self.rest(held);
+                *answer = RawAnswer::of(given);
+                Ok(())
+            }
+            Err(StoppedHeld::Waits(pending)) => {
+                self.held = GrowingHeld::Busy(pending);
+                Err(NotMade::Refused(GrowRefusal::UnderWay))
+            }
+            Err(StoppedHeld::Full(held)) => {
+                let refusal = if held.lacks_room_in_all(op) {
+                    NotMade::Full(held.number())
+                } else {
+                    NotMade::Refused(GrowRefusal::RowsBusy)
+                };
+                self.held = GrowingHeld::Free(self.shared.map.release(held));
+                Err(refusal)
+            }
+        }
+    }
+
+    /// Takes the next steps of the operation that is under way.
+    pub fn advance(&mut self, tries: u32, answer: &mut RawAnswer) -> Result<(), GrowRefusal>
+        requires its_own { IsOwnSession self.old }
+        ensures its_own { IsOwnSession self.new }
+        ensures ended { OnOk result (EndsFrom self.old.held self.old self.new answer.new) }
+        ensures refused { IfErr result (IsAdvanceRefusal self.old.held self.old self.new) }
+        ensures unchanged { OnErr result (answer.new ≡ answer.old) }
+    {
+        match mem::replace(&mut self.held, GrowingHeld::Gone) {
+            GrowingHeld::Busy(pending) => match self.shared.map.advance(pending, tries) {
+                Ok((held, given)) => {
+                    self.rest(held);
+                    *answer = RawAnswer::of(given);
+                    Ok(())
+                }
+                Err(pending) => {
+                    self.held = GrowingHeld::Busy(pending);
+                    Err(GrowRefusal::UnderWay)
+                }
+            },
+            held => {
+                self.held = held;
+                Err(GrowRefusal::Idle)
+            }
+        }
+    }
+
+    /// Holds the session, so that the next calls find it held, until `let_go`. Meanwhile the map isn't renewed or closed.
+    pub fn hold(&mut self, tries: u32) -> Result<(), GrowRefusal>
+        requires its_own { IsOwnSession self.old }
+        ensures its_own { IsOwnSession self.new }
+        ensures held { OnOk result (SeesMore self.old self.new) }
+        ensures refused { IfErr result (IsAway self.old self.new) }
+    {
+        let held = self.grip(tries)?;
+        self.keeps = true;
+        self.held = GrowingHeld::Held(held);
+        Ok(())
+    }
+
+    /// Lets a session go that is held. One whose operation is under way is let go when that has ended.
+    pub fn let_go(&mut self)
+        requires its_own { IsOwnSession self.old }
+        ensures its_own { IsOwnSession self.new }
+        ensures same { SeesMore self.old self.new }
+    {
+        self.keeps = false;
+        match mem::replace(&mut self.held, GrowingHeld::Gone) {
+            GrowingHeld::Held(held) => {
+                self.held = GrowingHeld::Free(self.shared.map.release(held));
+            }
+            held => self.held = held,
+        }
+    }
+
+    /// Frees the owner. The session rests at its place again. An operation under way goes on before: it takes its steps, so many times. If
+    /// it still waits then, the session is lost, and the map can't be renewed or closed.
+    pub fn free(self, tries: u32)
+        requires its_own { IsOwnSession self }
+    {
+        let mut owner = self;
+        let mut answer = RawAnswer::shown(None);
+        for _ in 0..tries {
+            if owner.advance(1, &mut answer).is_ok() {
+                break;
+            }
+        }
+        owner.let_go();
+        let GrowingSessionOwner {
+            shared,
+            keeps: _,
+            held,
+        } = owner;
+        if let GrowingHeld::Free(session) = held {
+            shared.places.leave(session);
+        }
+    }
+
+    // Takes the session out, held.
+    fn grip(&mut self, tries: u32) -> Result<Held, GrowRefusal>
+        requires its_own { IsOwnSession self.old }
+        ensures its_own { IfOk result (IsHeldOf (in_growing self.old)) }
+        ensures gripped { IfOk result (IsGripped self.old.held) }
+        ensures gone { OnOk result (self.new ≡ record self.old { held = GrowingHeld.Gone }) }
+        ensures stays { OnErr result (IsOwnSession self.new) }
+        ensures refused { IfErr result (IsAway self.old self.new) }
+    {
+        match mem::replace(&mut self.held, GrowingHeld::Gone) {
+            GrowingHeld::Free(session) => match self.shared.map.try_hold(session, tries) {
+                Ok(held) => Ok(held),
+                Err(session) => {
+                    self.held = GrowingHeld::Free(session);
+                    Err(GrowRefusal::Busy)
+                }
+            },
+            GrowingHeld::Held(held) => Ok(held),
+            held => {
+                self.held = held;
+                Err(GrowRefusal::UnderWay)
+            }
+        }
+    }
+
+    // Puts a held session back: held, if it is to stay so, or free.
+    fn rest(&mut self, held: Held)
+        requires its_own { IsHeldOf (in_growing self.old) held }
+        ensures its_own { IsOwnSession self.new }
+        ensures rested { IsRested held self.old self.new }
+    {
+        self.held = if self.keeps {
+            GrowingHeld::Held(held)
+        } else {
+            GrowingHeld::Free(self.shared.map.release(held))
+        };
+    }
+}
+
+// Why an operation isn't made in the current map: it is refused, or the map of this number is full.
+enum NotMade {
+    Refused(GrowRefusal),
+    Full(u64),
+}
