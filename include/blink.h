@@ -63,6 +63,8 @@ typedef struct { void *at; } blink_table;
 typedef struct { void *at; } blink_pass;
 typedef struct { void *at; } blink_map;
 typedef struct { void *at; } blink_session;
+typedef struct { void *at; } blink_growing;
+typedef struct { void *at; } blink_growing_session;
 
 /* A key with its record pointer. */
 typedef struct { uint64_t key, pointer; } blink_entry;
@@ -145,7 +147,8 @@ enum {
     BLINK_FULL = 105,              /* the session has too few rows or page numbers in all, and the map's pool too */
     BLINK_SESSION_MISSING = 106,   /* the handle of a session, or another handle of the map, isn't freed */
     BLINK_ROWS_BUSY = 107,         /* the session has enough rows and page numbers in all, but some rows are on their way back */
-    BLINK_MAP_CLOSED = 108         /* the map is closed, or a close of it has begun */
+    BLINK_MAP_CLOSED = 108,        /* the map is closed, or a close of it has begun */
+    BLINK_RENEWING = 109           /* a growing map is being renewed, or can't be, since a session is held or in a call */
 };
 
 /* The greatest number of operations that run at once. */
@@ -186,6 +189,7 @@ static inline const char *blink_message(int code) {
     case BLINK_SESSION_MISSING: return "a session or another handle isn't freed";
     case BLINK_ROWS_BUSY: return "rows are on their way back: try again";
     case BLINK_MAP_CLOSED: return "the map is closed, or a close of it has begun";
+    case BLINK_RENEWING: return "the map is being renewed, or a session is held or in a call: try again";
     default: return "unknown code";
     }
 }
@@ -684,6 +688,92 @@ int blink_session_reserve(const blink_session *session, blink_reserve *reserve);
  * after 1,000 tries, its place is lost, and nothing else: the operation has made its change or never makes it. */
 void blink_session_free(blink_session session);
 
+/* ---- The growing map: a map that has no room to be told. ----
+ *
+ * It is one map after another. A change that finds no room renews it: all sessions are gathered, the entries are copied into another map
+ * with more room, and all go on there. So it is never refused with BLINK_FULL. What the calls of sessions promise is that of the map's, and
+ * there is one list of changes, which goes on through all renewals.
+ *
+ * A renewal takes the time of a copy of all entries, and memory for both maps. All sessions wait for it, those that search too: a call that
+ * comes meanwhile is refused with BLINK_RENEWING after `tries` looks, and changes nothing. So is a change that finds the map full while a
+ * session is held (blink_growing_session_hold), has an operation under way, or is in a call. Call again then; the functions that wait do.
+ *
+ * Different handles may be used at the same time, each by one thread: who needs the map in another thread has a handle of it by
+ * blink_growing_share. From the opening to the close, each code to be looked at:
+ *
+ *     blink_index_new(32, &index);
+ *     blink_growing_open(&index, 2, &map);
+ *     blink_growing_join(&map, &session);     for each of two threads, whose session begins as {NULL}
+ *         blink_growing_session_put_wait(&session, key, pointer, &answer);
+ *         blink_growing_session_free(session);
+ *     blink_growing_close(&map, &closed);
+ *     blink_growing_free(map);
+ */
+
+/* Opens a growing map over the index, which stays as it is, with places for 1 to 256 sessions. Refused: BLINK_BAD_SESSIONS;
+ * BLINK_MAP_TOO_LARGE, if the index leaves too few of the 1,048,575 page numbers; BLINK_NO_MEMORY. */
+int blink_growing_open(const blink_index *index, uint32_t sessions, blink_growing *out);
+
+/* Gives one more handle of the map. It takes memory for the handle alone. Refused: BLINK_MAP_CLOSED, if a close of the map has begun;
+ * BLINK_NO_MEMORY. */
+int blink_growing_share(blink_growing *map, blink_growing *out);
+
+/* Gives a session. It takes memory for the handle alone. Refused: BLINK_NO_SESSION; BLINK_NO_MEMORY. Tested: it is BLINK_NO_SESSION if a
+ * close of the map has begun; otherwise only if each place was taken. */
+int blink_growing_join(blink_growing *map, blink_growing_session *out);
+
+/* Renews the map in good time, which spares other threads the renewal and not the pause. It looks `looks` times for each session that is
+ * held or in a call. Refused: BLINK_RENEWING, if one was at each look, or another thread was renewing the map; BLINK_MAP_TOO_LARGE;
+ * BLINK_NO_MEMORY; BLINK_MAP_CLOSED. Then the map goes on with the room that it has left. */
+int blink_growing_renew(blink_growing *map, uint32_t looks);
+
+/* Closes the map, and gives an index of its entries in as few pages as they need, in an empty handle. The handle of the map stays, and is
+ * still to be freed. Refused: BLINK_MAP_CLOSED, exactly if the map is closed; BLINK_SESSION_MISSING, if the handle of a session, or another
+ * one of the map, isn't freed; BLINK_NO_MEMORY; BLINK_MAP_TOO_LARGE; BLINK_RENEWING, only if a session was lost in the midst of an operation
+ * (blink_growing_session_free). But for BLINK_MAP_CLOSED the map stays, with all its entries, and the call may be made again; no session
+ * may join any more after the last three. */
+int blink_growing_close(blink_growing *map, blink_index *out);
+
+/* Frees the handle. The handles of sessions, and others of the map, may still be used, and are still to be freed. */
+void blink_growing_free(blink_growing map);
+
+/* Look a key up, scan a range up or down, take a snapshot: as blink_session_find and its like do. Refused: BLINK_PENDING, and then nothing
+ * changes; BLINK_RENEWING; the snapshot also with BLINK_NO_MEMORY. */
+int blink_growing_session_find(blink_growing_session *session, uint64_t key, uint32_t tries, blink_answer *answer);
+int blink_growing_session_scan(blink_growing_session *session, uint64_t lo, uint64_t hi, uint32_t tries, blink_entry *entries, size_t places,
+                               blink_scanned *scanned);
+int blink_growing_session_scan_back(blink_growing_session *session, uint64_t lo, uint64_t hi, uint32_t tries, blink_entry *entries,
+                                    size_t places, blink_scanned *scanned);
+int blink_growing_session_snapshot(blink_growing_session *session, uint64_t lo, uint64_t hi, uint32_t tries, blink_entry *entries,
+                                   size_t places, blink_taken *taken);
+
+/* Insert, delete, replace or exchange any key, or delete it if its pointer is `expected`: as blink_session_insert and its like do. Where the
+ * map is full they renew it, and take memory then. It returns BLINK_PENDING where the operation waits for another session after `tries`
+ * steps in vain: then it goes on by blink_growing_session_advance, and the session is held until it has ended. Refused: BLINK_PENDING, if an
+ * operation was under way before, and then nothing changes; BLINK_RENEWING; BLINK_ROWS_BUSY, if rows of the session are on their way back;
+ * BLINK_MAP_TOO_LARGE; BLINK_NO_MEMORY. The operation isn't made then, and may be begun again. */
+int blink_growing_session_insert(blink_growing_session *session, uint64_t key, uint64_t pointer, uint32_t tries, blink_answer *answer);
+int blink_growing_session_delete(blink_growing_session *session, uint64_t key, uint32_t tries, blink_answer *answer);
+int blink_growing_session_replace(blink_growing_session *session, uint64_t key, uint64_t pointer, uint32_t tries, blink_answer *answer);
+int blink_growing_session_exchange(blink_growing_session *session, uint64_t key, uint64_t expected, uint64_t pointer, uint32_t tries,
+                                   blink_answer *answer);
+int blink_growing_session_delete_exact(blink_growing_session *session, uint64_t key, uint64_t expected, uint32_t tries,
+                                       blink_answer *answer);
+
+/* Takes the next steps of the operation that is under way: BLINK_DONE and the answer once that has ended, and BLINK_PENDING if it hasn't.
+ * Refused: BLINK_IDLE, if nothing is under way. */
+int blink_growing_session_advance(blink_growing_session *session, uint32_t tries, blink_answer *answer);
+
+/* Holds the session for the calls that follow, so that they find no renewal, until it is let go. The map is neither renewed nor closed
+ * meanwhile, so hold it for a few calls, and let it go before the thread waits for anything. A change of this session that finds the map
+ * full lets it go itself, and so does one that goes on: it is held again by the next call. Refused: BLINK_PENDING; BLINK_RENEWING. */
+int blink_growing_session_hold(blink_growing_session *session, uint32_t tries);
+void blink_growing_session_let_go(blink_growing_session *session);
+
+/* Frees the handle. A session leaves its map by it, and its place can be taken again. An operation under way goes on to its end before. If it
+ * still waits for another session after 1,000 tries, the session is lost, and the map can be neither renewed nor closed any more. */
+void blink_growing_session_free(blink_growing_session session);
+
 /* Tells ThreadSanitizer, where it is on, what "Threads" says of pointers: of the calls above, and so of the functions below. */
 #if defined(__SANITIZE_THREAD__)
 #include "blink_tsan.h"
@@ -756,6 +846,89 @@ static inline int blink_session_put_wait(blink_session *session, uint64_t key, u
 }
 
 #undef BLINK_WAITS
+
+/* The same of a growing map's session. They never return BLINK_RENEWING either, and wait while the map is renewed, or a session that is held
+ * or in a call keeps it from being renewed. */
+static inline int blink_growing_session_finish(blink_growing_session *session, blink_answer *answer) {
+    int code;
+    while ((code = blink_growing_session_advance(session, BLINK_TRIES, answer)) == BLINK_PENDING) sched_yield();
+    return code;
+}
+
+/* Whether a call with this code has to begin once more; if not, `code` is how it has ended. For the functions below. */
+static inline bool blink_growing_session_again(blink_growing_session *session, int *code, blink_answer *answer) {
+    if (*code == BLINK_PENDING) *code = blink_growing_session_finish(session, answer);
+    if (*code != BLINK_ROWS_BUSY && *code != BLINK_RENEWING) return false;
+    sched_yield();
+    return true;
+}
+
+/* The body of each change below. A call on a session that has an operation under way ends that one: so there is none. */
+#define BLINK_WAITS(begins)                                      \
+    int code;                                                    \
+    do code = begins;                                            \
+    while (blink_growing_session_again(session, &code, answer)); \
+    return code
+
+static inline int blink_growing_session_insert_wait(blink_growing_session *session, uint64_t key, uint64_t pointer, blink_answer *answer) {
+    BLINK_WAITS(blink_growing_session_insert(session, key, pointer, BLINK_TRIES, answer));
+}
+
+static inline int blink_growing_session_delete_wait(blink_growing_session *session, uint64_t key, blink_answer *answer) {
+    BLINK_WAITS(blink_growing_session_delete(session, key, BLINK_TRIES, answer));
+}
+
+static inline int blink_growing_session_replace_wait(blink_growing_session *session, uint64_t key, uint64_t pointer, blink_answer *answer) {
+    BLINK_WAITS(blink_growing_session_replace(session, key, pointer, BLINK_TRIES, answer));
+}
+
+static inline int blink_growing_session_exchange_wait(blink_growing_session *session, uint64_t key, uint64_t expected, uint64_t pointer,
+                                                      blink_answer *answer) {
+    BLINK_WAITS(blink_growing_session_exchange(session, key, expected, pointer, BLINK_TRIES, answer));
+}
+
+static inline int blink_growing_session_delete_exact_wait(blink_growing_session *session, uint64_t key, uint64_t expected,
+                                                          blink_answer *answer) {
+    BLINK_WAITS(blink_growing_session_delete_exact(session, key, expected, BLINK_TRIES, answer));
+}
+
+#undef BLINK_WAITS
+
+/* Maps any key to the pointer: BLINK_INSERTED, if nothing was there, or BLINK_REPLACED and the pointer that was there. It replaces, and where
+ * the key is absent it inserts; it begins anew where another session has inserted the key between. */
+static inline int blink_growing_session_put_wait(blink_growing_session *session, uint64_t key, uint64_t pointer, blink_answer *answer) {
+    for (;;) {
+        blink_answer given;
+        int code = blink_growing_session_replace_wait(session, key, pointer, &given);
+        if (code == BLINK_DONE && given.kind == BLINK_ABSENT) {
+            code = blink_growing_session_insert_wait(session, key, pointer, &given);
+            if (code == BLINK_DONE && given.kind == BLINK_EXISTS) continue;
+        }
+        if (code == BLINK_DONE) *answer = given;
+        return code;
+    }
+}
+
+/* Look a key up, and scan, as the calls do, and wait while the map is renewed. */
+static inline int blink_growing_session_find_wait(blink_growing_session *session, uint64_t key, blink_answer *answer) {
+    int code;
+    while ((code = blink_growing_session_find(session, key, BLINK_TRIES, answer)) == BLINK_RENEWING) sched_yield();
+    return code;
+}
+
+static inline int blink_growing_session_scan_wait(blink_growing_session *session, uint64_t lo, uint64_t hi, blink_entry *entries,
+                                                  size_t places, blink_scanned *scanned) {
+    int code;
+    while ((code = blink_growing_session_scan(session, lo, hi, BLINK_TRIES, entries, places, scanned)) == BLINK_RENEWING) sched_yield();
+    return code;
+}
+
+static inline int blink_growing_session_scan_back_wait(blink_growing_session *session, uint64_t lo, uint64_t hi, blink_entry *entries,
+                                                       size_t places, blink_scanned *scanned) {
+    int code;
+    while ((code = blink_growing_session_scan_back(session, lo, hi, BLINK_TRIES, entries, places, scanned)) == BLINK_RENEWING) sched_yield();
+    return code;
+}
 
 /* Ends the operation that is under way. Refused: as blink_pass_advance, but never with BLINK_PENDING. */
 static inline int blink_pass_finish(blink_pass *pass, blink_answer *answer) {

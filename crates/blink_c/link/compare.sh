@@ -37,6 +37,8 @@ sed 's/|/ | /g' "$work/exports" | awk -F ' [|] ' '
         c["IndexHandle"] = c["IndexSlot"] = "blink_index"; c["TableHandle"] = c["TableSlot"] = "blink_table"
         c["PassHandle"] = c["PassSlot"] = "blink_pass"; c["MapHandle"] = c["MapSlot"] = "blink_map"
         c["Place"] = "uint64_t"
+        c["GrowingHandle"] = c["GrowingSlot"] = "blink_growing"
+        c["GrowingSessionHandle"] = c["GrowingSessionSlot"] = "blink_growing_session"
         c["SessionHandle"] = c["SessionSlot"] = "blink_session"; c["ReaderHandle"] = c["ReaderSlot"] = "blink_reader"
     }
     {
@@ -59,7 +61,7 @@ sed 's/|/ | /g' "$work/exports" | awk -F ' [|] ' '
 
 # The names in the header, but those of its inline functions.
 sed -n 's/^static inline [^(]*[ *]\(blink_[a-z_]*\)(.*/\1/p' "$header/blink.h" | sort -u >"$work/inline"
-grep -oE '\bblink_(index|reader|table|pass|map|session)_[a-z_]+\(' "$header/blink.h" | tr -d '(' | sort -u | comm -23 - "$work/inline" >"$work/declared"
+grep -oE '\bblink_(index|reader|table|pass|map|session|growing)_[a-z_]+\(' "$header/blink.h" | tr -d '(' | sort -u | comm -23 - "$work/inline" >"$work/declared"
 cut -d"|" -f1 "$work/exports" | sort >"$work/names"
 diff "$work/names" "$work/declared" | sed -n 's/^< \(.*\)/include\/blink.h: lacks \1/p; s/^> \(.*\)/include\/blink.h: no export \1/p' >>"$work/found"
 
@@ -121,6 +123,7 @@ FULL ../blink_owners/specs/MapCodes.antt Full
 SESSION_MISSING ../blink_owners/specs/MapCodes.antt Missing
 MAP_CLOSED ../blink_owners/specs/MapCodes.antt Closed
 ROWS_BUSY ../blink_owners/specs/MapCodes.antt RowsBusy
+RENEWING ../blink_owners/specs/GrowCodes.antt Busy
 WORDS
     # The structs of numbers, field by field.
     awk '/^pub struct (Raw|Entry)/ { name = $3; on = 1; print "struct " name " {"; next }

@@ -28,7 +28,7 @@ static void tells_each_code(void) {
                                 BLINK_BAD_FAN, BLINK_NO_MEMORY, BLINK_NOT_ASCENDING, BLINK_SHARED, BLINK_TAKEN, BLINK_NO_ALLOWANCE,
                                 BLINK_NOT_YOURS, BLINK_SPENT, BLINK_MISSING, BLINK_TABLE_TOO_LARGE, BLINK_TRANSFER_NOT_YOURS,
                                 BLINK_FOREIGN, BLINK_PENDING, BLINK_IDLE, BLINK_RETURNED, BLINK_MAP_TOO_LARGE, BLINK_BAD_SESSIONS, BLINK_MAP_CLOSED,
-                                BLINK_NO_SESSION, BLINK_FULL, BLINK_SESSION_MISSING, BLINK_ROWS_BUSY};
+                                BLINK_NO_SESSION, BLINK_FULL, BLINK_SESSION_MISSING, BLINK_ROWS_BUSY, BLINK_RENEWING};
     const char *unknown = blink_message(-1);
     size_t count = sizeof codes / sizeof codes[0], told = 0;
     for (int code = -1000; code <= 1000; code++) told += strcmp(blink_message(code), unknown) != 0;
@@ -1022,6 +1022,121 @@ static bool uses_a_map(blink_index *index) {
     return shared && !refused;
 }
 
+static bool grows(blink_growing_session *session, uint64_t key, uint64_t kind, uint64_t pointer) {
+    blink_answer answer = {9, 9};
+    return blink_growing_session_find_wait(session, key, &answer) == BLINK_DONE && is(answer, kind, pointer);
+}
+
+// A growing map by one thread: its calls, a hold that keeps it from being renewed, and each refusal of its ends.
+static void changes_a_growing_map(void) {
+    blink_index index = index_of(4, five, 6), closed = {NULL};
+    blink_growing map = {NULL}, other = {NULL};
+    blink_growing_session session = {NULL}, second = {NULL};
+    blink_answer answer = {9, 9};
+    blink_entry entries[3];
+    blink_scanned scanned;
+    blink_taken taken;
+    CHECK(blink_growing_open(&index, 0, &map) == BLINK_BAD_SESSIONS && blink_growing_open(&index, 257, &map) == BLINK_BAD_SESSIONS);
+    CHECK(blink_growing_open(&index, 1, &map) == BLINK_DONE);
+    blink_index_free(index);
+    CHECK(blink_growing_share(&map, &other) == BLINK_DONE && blink_growing_join(&other, &session) == BLINK_DONE);
+    CHECK(blink_growing_join(&map, &second) == BLINK_NO_SESSION && second.at == NULL);
+    CHECK(grows(&session, 3, BLINK_FOUND, 30) && grows(&session, 6, BLINK_ABSENT, 0));
+    CHECK(blink_growing_session_insert_wait(&session, 6, 60, &answer) == BLINK_DONE && is(answer, BLINK_INSERTED, 0));
+    CHECK(blink_growing_session_insert_wait(&session, 6, 61, &answer) == BLINK_DONE && is(answer, BLINK_EXISTS, 60));
+    CHECK(blink_growing_session_replace_wait(&session, 1, 11, &answer) == BLINK_DONE && is(answer, BLINK_REPLACED, 10));
+    CHECK(blink_growing_session_exchange_wait(&session, 1, 10, 12, &answer) == BLINK_DONE && is(answer, BLINK_EXISTS, 11));
+    CHECK(blink_growing_session_delete_exact_wait(&session, 2, 20, &answer) == BLINK_DONE && is(answer, BLINK_REMOVED, 20));
+    CHECK(blink_growing_session_delete_wait(&session, 2, &answer) == BLINK_DONE && is(answer, BLINK_ABSENT, 0));
+    CHECK(blink_growing_session_put_wait(&session, 7, 70, &answer) == BLINK_DONE && is(answer, BLINK_INSERTED, 0));
+    CHECK(blink_growing_session_put_wait(&session, 7, 71, &answer) == BLINK_DONE && is(answer, BLINK_REPLACED, 70));
+    CHECK(blink_growing_session_advance(&session, 1, &answer) == BLINK_IDLE);
+    CHECK(blink_growing_session_scan_wait(&session, 1, 4, entries, 3, &scanned) == BLINK_DONE);
+    CHECK(scanned.filled == 3 && !scanned.more && entries[0].pointer == 11 && entries[1].key == 3 && entries[2].key == 4);
+    CHECK(blink_growing_session_scan_back_wait(&session, 1, 6, entries, 2, &scanned) == BLINK_DONE);
+    CHECK(scanned.filled == 2 && scanned.more && scanned.next == 4 && entries[0].key == 6 && entries[1].key == 5);
+    CHECK(blink_growing_session_snapshot(&session, 6, 9, 1, entries, 3, &taken) == BLINK_DONE && taken.taken && taken.there == 2);
+    // while it is held, the map isn't renewed
+    CHECK(blink_growing_renew(&map, 1) == BLINK_DONE && blink_growing_session_hold(&session, 1) == BLINK_DONE);
+    CHECK(blink_growing_renew(&map, 1) == BLINK_RENEWING && grows(&session, 7, BLINK_FOUND, 71));
+    blink_growing_session_let_go(&session);
+    CHECK(blink_growing_renew(&map, 1) == BLINK_DONE && grows(&session, 7, BLINK_FOUND, 71));
+    CHECK(blink_growing_close(&map, &closed) == BLINK_SESSION_MISSING && closed.at == NULL);
+    blink_growing_session_free(session);
+    blink_growing_free(other);
+    CHECK(blink_growing_close(&map, &closed) == BLINK_DONE && blink_index_len(&closed) == 6);
+    blink_index_free(closed);
+    closed.at = NULL;
+    CHECK(blink_growing_close(&map, &closed) == BLINK_MAP_CLOSED && blink_growing_join(&map, &session) == BLINK_NO_SESSION);
+    CHECK(blink_growing_share(&map, &other) == BLINK_MAP_CLOSED && blink_growing_renew(&map, 1) == BLINK_MAP_CLOSED);
+    blink_growing_free(map);
+}
+
+static void *grows_from_nothing(void *at) {
+    blink_growing *map = at;
+    blink_growing_session session = {NULL};
+    blink_answer answer;
+    CHECK(blink_growing_join(map, &session) == BLINK_DONE);
+    uint64_t first = (uint64_t)(uintptr_t)session.at;
+    for (uint64_t key = 0; key < 5000; key++) {
+        CHECK(blink_growing_session_put_wait(&session, key, first, &answer) == BLINK_DONE);
+        CHECK(blink_growing_session_find_wait(&session, key, &answer) == BLINK_DONE && answer.kind == BLINK_FOUND);
+    }
+    blink_growing_session_free(session);
+    blink_growing_free(*map);
+    return NULL;
+}
+
+// Two threads put each key into an empty map, which has to be renewed often.
+static void grows_by_threads(void) {
+    blink_index index = {NULL}, closed = {NULL};
+    blink_growing map = {NULL}, shares[2] = {{NULL}, {NULL}};
+    pthread_t threads[2];
+    CHECK(blink_index_new(32, &index) == BLINK_DONE && blink_growing_open(&index, 2, &map) == BLINK_DONE);
+    blink_index_free(index);
+    for (int it = 0; it < 2; it++) {
+        CHECK(blink_growing_share(&map, &shares[it]) == BLINK_DONE);
+        CHECK(pthread_create(&threads[it], NULL, grows_from_nothing, &shares[it]) == 0);
+    }
+    for (int it = 0; it < 2; it++) CHECK(pthread_join(threads[it], NULL) == 0);
+    CHECK(blink_growing_close(&map, &closed) == BLINK_DONE && blink_index_len(&closed) == 5000);
+    blink_index_free(closed);
+    blink_growing_free(map);
+}
+
+// One use of all that takes memory at a growing map: whether none was refused. After a refusal the map goes on, or closes later.
+static bool uses_a_growing_map(blink_index *index) {
+    blink_growing map = {NULL}, other = {NULL};
+    blink_growing_session session = {NULL};
+    blink_index closed = {NULL};
+    blink_answer answer = {9, 9};
+    int code = blink_growing_open(index, 1, &map);
+    if (code != BLINK_DONE) return CHECK(code == BLINK_NO_MEMORY && map.at == NULL), false;
+    bool all = (code = blink_growing_share(&map, &other)) == BLINK_DONE;
+    CHECK(all || (code == BLINK_NO_MEMORY && other.at == NULL));
+    if (all) blink_growing_free(other);
+    if ((code = blink_growing_join(&map, &session)) == BLINK_DONE) {
+        CHECK(blink_growing_session_insert_wait(&session, 7, 70, &answer) == BLINK_DONE && is(answer, BLINK_INSERTED, 0));
+        code = blink_growing_renew(&map, 1);
+        CHECK(code == BLINK_DONE || code == BLINK_NO_MEMORY);
+        all = all && code == BLINK_DONE;
+        CHECK(grows(&session, 7, BLINK_FOUND, 70));
+        blink_growing_session_free(session);
+    } else
+        CHECK(code == BLINK_NO_MEMORY && session.at == NULL), all = false;
+    code = blink_growing_close(&map, &closed);
+    if (code != BLINK_DONE) {
+        CHECK(code == BLINK_NO_MEMORY && closed.at == NULL);
+        all = false;
+        refused_at = -1;
+        CHECK(blink_growing_close(&map, &closed) == BLINK_DONE);
+    }
+    CHECK(blink_index_find(&closed, 5, &answer.pointer) && answer.pointer == 50);
+    blink_index_free(closed);
+    blink_growing_free(map);
+    return all;
+}
+
 // One use of all that takes memory at readers: whether none was refused. A refusal leaves the index, or the reader, as it was.
 static bool uses_readers(blink_index *index) {
     blink_reader reader = {NULL}, other = {NULL};
@@ -1071,7 +1186,7 @@ static bool uses_memory(void) {
         CHECK(code == BLINK_DONE || code == BLINK_NO_MEMORY);
         all = all && code == BLINK_DONE;
         if (code == BLINK_DONE) blink_index_free(closed);
-        all = all && uses_a_map(&copy) && uses_readers(&copy);
+        all = all && uses_a_map(&copy) && uses_a_growing_map(&copy) && uses_readers(&copy);
     }
     if (copy.at) blink_index_free(copy);
     blink_index_free(index);
@@ -1101,6 +1216,8 @@ int main(int argc, char **argv) {
     shares_a_map();
     if (argc == 1) joins_at_once();
     shares_an_index();
+    changes_a_growing_map();
+    grows_by_threads();
     long requests = 0;
     do refused_at = requests++;
     while (!uses_memory());

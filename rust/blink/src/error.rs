@@ -40,6 +40,8 @@ pub enum Error {
     /// The session has enough rows and page numbers in all for the change, but some rows are on their way back. The same change may be
     /// let through later.
     RowsBusy,
+    /// A growing map is being renewed by another thread; or it can't be, since a session is held or in a call.
+    Renewing,
     /// The map was closed before. [`Map::close`](crate::Map::close) takes the map, so this crate's calls never return it.
     Closed,
 }
@@ -61,6 +63,7 @@ impl Error {
             105 => Error::Full,
             107 => Error::RowsBusy,
             108 => Error::Closed,
+            109 => Error::Renewing,
             _ => unreachable!("libblink returned code {code}"),
         }
     }
@@ -92,6 +95,7 @@ impl fmt::Display for Error {
             Error::Full => f.write_str("too few page numbers or rows are left: close the map, compact the index, and open a map with more room over it"),
             Error::RowsBusy => f.write_str("rows of the session are on their way back: try again later"),
             Error::Closed => f.write_str("the map is closed"),
+            Error::Renewing => f.write_str("the map is being renewed, or cannot be, since a session is held or in a call: try again"),
         }
     }
 }

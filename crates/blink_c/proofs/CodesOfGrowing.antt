@@ -1,0 +1,18 @@
+-- The codes of the refusals of a growing map or its session.
+use Rattle.std.proofs.Common.{◌≡◌, arith}
+use Rattle.blink_owners.specs.declared.grow_refusal.GrowRefusal.{GrowRefusal}
+use Rattle.blink_owners.specs.declared.grow_refusal.GrowRefusal.TheVariants.{OutOfMemory, TooLarge, Sessions, NoSession, Busy, RowsBusy, Missing, UnderWay, Idle, Closed}
+use Rattle.blink_owners.specs.GrowCodes.{code_of}
+
+-- no refusal has the code of a call that isn't refused
+pub not_done : (refusal : GrowRefusal) → code_of refusal ≡ 0 → ⊥
+not_done OutOfMemory is = omega (arith, is)
+not_done TooLarge is = omega (arith, is)
+not_done Sessions is = omega (arith, is)
+not_done NoSession is = omega (arith, is)
+not_done Busy is = omega (arith, is)
+not_done RowsBusy is = omega (arith, is)
+not_done Missing is = omega (arith, is)
+not_done UnderWay is = omega (arith, is)
+not_done Idle is = omega (arith, is)
+not_done Closed is = omega (arith, is)

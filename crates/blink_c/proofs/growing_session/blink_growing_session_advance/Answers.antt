@@ -1,0 +1,17 @@
+use Rattle.std.proofs.Common.{IfErr, subst}
+use Rattle.blink_owners.specs.declared.growing_session_owner.GrowingSessionOwner.{GrowingSessionOwner}
+use Rattle.blink_owners.specs.GrowCodes.{code_of}
+use Rattle.blink_owners.specs.GrowingSessions.{EndsFrom, IsAdvanceRefusal}
+use Rattle.blink_c.proofs.Codes.{on_done, told_why}
+use Rattle.blink_c.proofs.CodesOfGrowing.{not_done}
+use Rattle.blink_c.proofs.growing_session.blink_growing_session_advance.Goals as goal
+
+pub returns-clause-ended : goal.returns-clause-ended
+returns-clause-ended c zero =
+    subst (λ (owner : GrowingSessionOwner). EndsFrom owner.held owner c.advance.new.self c.advance.new.answer) c.get.ensures.value
+    (on_done code_of not_done c.advance.result c.code_of.result c.code_of.ensures c.advance.ensures.ended zero)
+
+pub returns-clause-refused : goal.returns-clause-refused
+returns-clause-refused c =
+    told_why code_of (IsAdvanceRefusal c.args.session.now.value.held c.args.session.now.value c.advance.new.self) c.advance.result c.code_of.result c.code_of.ensures
+    (subst (λ (owner : GrowingSessionOwner). IfErr c.advance.result (IsAdvanceRefusal owner.held owner c.advance.new.self)) c.get.ensures.value c.advance.ensures.refused)

@@ -1,0 +1,17 @@
+use Rattle.std.proofs.Common.{IfErr, subst}
+use Rattle.blink_owners.specs.declared.growing_session_owner.GrowingSessionOwner.{GrowingSessionOwner}
+use Rattle.blink_owners.specs.GrowCodes.{code_of}
+use Rattle.blink_owners.specs.GrowingSessions.{IsTakeRefusal, Takes}
+use Rattle.blink_c.proofs.Codes.{on_done, told_why}
+use Rattle.blink_c.proofs.CodesOfGrowing.{not_done}
+use Rattle.blink_c.proofs.growing_session.blink_growing_session_snapshot.Goals as goal
+
+pub returns-clause-taken : goal.returns-clause-taken
+returns-clause-taken c zero =
+    subst (λ (owner : GrowingSessionOwner). Takes c.args.lo c.args.hi owner c.snapshot.new.self c.args.entries.now c.snapshot.new.entries c.snapshot.new.taken) c.get.ensures.value
+    (on_done code_of not_done c.snapshot.result c.code_of.result c.code_of.ensures c.snapshot.ensures.taken zero)
+
+pub returns-clause-refused : goal.returns-clause-refused
+returns-clause-refused c =
+    told_why code_of (IsTakeRefusal c.args.session.now.value c.snapshot.new.self) c.snapshot.result c.code_of.result c.code_of.ensures
+    (subst (λ (owner : GrowingSessionOwner). IfErr c.snapshot.result (IsTakeRefusal owner c.snapshot.new.self)) c.get.ensures.value c.snapshot.ensures.refused)

@@ -1,0 +1,266 @@
+//! The exports of a growing map's session.
+ghost use Rattle.std.specs.Prelude.{◌≡◌, ◌≢◌};
+ghost use Rattle.blink_batch.specs.{FitsWords};
+ghost use Rattle.blink_batch.specs.declared.Op.TheVariants.{Delete, DeleteExact, Exchange, Insert, Replace};
+ghost use Rattle.blink_map.specs.{IsUpdate};
+ghost use Rattle.blink_owners.specs.Codes.{TellsWhy};
+ghost use Rattle.blink_owners.specs.GrowCodes.{code_of};
+ghost use Rattle.blink_owners.specs.GrowingSessions.{EndsFrom, Finds, IsAdvanceRefusal, IsAway, IsOwnSession, IsTakeRefusal, Scans, ScansBack, SeesMore, Takes};
+ghost use Rattle.blink_c.specs.Changing.{ChangesGrowing};
+
+use crate::growing_session_handle::GrowingSessionHandle;
+use blink_batch::{Entry, Op};
+use blink_map::FREE_TRIES;
+use blink_owners::grow_refusal::code_of;
+use blink_owners::raw::{RawAnswer, RawScanned, RawTaken};
+use blink_owners::refusal::Code;
+use std::alloc::Global;
+
+/// Looks any key up, as the session has seen it by the end of the call. It looks `tries` times for the session, at least once, while the
+/// map is renewed.
+#[unsafe(no_mangle)]
+pub extern "C" fn blink_growing_session_find(
+    session: &mut GrowingSessionHandle,
+    key: u64,
+    tries: u32,
+    answer: &mut RawAnswer,
+) -> Code
+    requires its_own { IsOwnSession session.old.value }
+    ensures its_own { IsOwnSession session.new.value }
+    ensures found { result ≡ 0 → Finds key session.old.value session.new.value answer.new }
+    ensures refused { TellsWhy code_of (IsAway session.old.value session.new.value) result }
+    ensures unchanged { result ≢ 0 → answer.new ≡ answer.old }
+{
+    code_of(&session.get().find(key, tries, answer))
+}
+
+/// Gives the entries whose keys are from `lo` to `hi`, as many as there are places, and tells how far it came.
+#[unsafe(no_mangle)]
+pub extern "C" fn blink_growing_session_scan(
+    session: &mut GrowingSessionHandle,
+    lo: u64,
+    hi: u64,
+    tries: u32,
+    entries: &mut [Entry],
+    scanned: &mut RawScanned,
+) -> Code
+    requires its_own { IsOwnSession session.old.value }
+    ensures its_own { IsOwnSession session.new.value }
+    ensures scanned { result ≡ 0
+        → Scans lo hi session.old.value session.new.value entries.old entries.new scanned.new }
+    ensures refused { TellsWhy code_of (IsAway session.old.value session.new.value) result }
+    ensures unchanged { result ≢ 0
+        → (entries.new ≡ entries.old) × (scanned.new ≡ scanned.old) }
+{
+    code_of(
+        &session
+            .get()
+            .scan((lo, hi), tries, entries, scanned),
+    )
+}
+
+/// Gives the entries whose keys are from `lo` to `hi`, the greatest first, as many as there are places, and tells how far it
+/// came.
+#[unsafe(no_mangle)]
+pub extern "C" fn blink_growing_session_scan_back(
+    session: &mut GrowingSessionHandle,
+    lo: u64,
+    hi: u64,
+    tries: u32,
+    entries: &mut [Entry],
+    scanned: &mut RawScanned,
+) -> Code
+    requires its_own { IsOwnSession session.old.value }
+    ensures its_own { IsOwnSession session.new.value }
+    ensures scanned { result ≡ 0
+        → ScansBack lo hi session.old.value session.new.value entries.old entries.new scanned.new }
+    ensures refused { TellsWhy code_of (IsAway session.old.value session.new.value) result }
+    ensures unchanged { result ≢ 0
+        → (entries.new ≡ entries.old) × (scanned.new ≡ scanned.old) }
+{
+    code_of(
+        &session
+            .get()
+            .scan_back((lo, hi), tries, entries, scanned),
+    )
+}
+
+/// Takes a snapshot of the entries whose keys are from `lo` to `hi`, as all of them were at one time. It tries so many times, and
+/// tells whether one was taken, and how many entries it has.
+#[unsafe(no_mangle)]
+pub extern "C" fn blink_growing_session_snapshot(
+    alloc: Global,
+    session: &mut GrowingSessionHandle,
+    lo: u64,
+    hi: u64,
+    tries: u32,
+    entries: &mut [Entry],
+    taken: &mut RawTaken,
+) -> Code
+    requires its_own { IsOwnSession session.old.value }
+    ensures its_own { IsOwnSession session.new.value }
+    ensures taken { result ≡ 0
+        → Takes lo hi session.old.value session.new.value entries.old entries.new taken.new }
+    ensures refused { TellsWhy code_of (IsTakeRefusal session.old.value session.new.value) result }
+    ensures unchanged { result ≢ 0 → (entries.new ≡ entries.old) × (taken.new ≡ taken.old) }
+{
+    code_of(
+        &session
+            .get()
+            .snapshot(alloc, (lo, hi), tries, entries, taken),
+    )
+}
+
+/// Adds an entry. Where the map is full, the call renews it. After `tries` steps in vain it returns with the insertion under way, which
+/// goes on by `blink_growing_session_advance`.
+#[unsafe(no_mangle)]
+pub extern "C" fn blink_growing_session_insert(
+    alloc: Global,
+    session: &mut GrowingSessionHandle,
+    key: u64,
+    pointer: u64,
+    tries: u32,
+    answer: &mut RawAnswer,
+) -> Code
+    requires { IsOwnSession session.old.value }
+    ensures { ChangesGrowing (Insert key pointer)
+        session.old.value session.new.value answer.old answer.new result }
+{
+    change(alloc, session, Op::Insert(key, pointer), tries, answer)
+}
+
+/// Removes a key. It may be under way then as an insertion.
+#[unsafe(no_mangle)]
+pub extern "C" fn blink_growing_session_delete(
+    alloc: Global,
+    session: &mut GrowingSessionHandle,
+    key: u64,
+    tries: u32,
+    answer: &mut RawAnswer,
+) -> Code
+    requires { IsOwnSession session.old.value }
+    ensures { ChangesGrowing (Delete key)
+        session.old.value session.new.value answer.old answer.new result }
+{
+    change(alloc, session, Op::Delete(key), tries, answer)
+}
+
+/// Replaces a key's pointer. It may be under way then as an insertion.
+#[unsafe(no_mangle)]
+pub extern "C" fn blink_growing_session_replace(
+    alloc: Global,
+    session: &mut GrowingSessionHandle,
+    key: u64,
+    pointer: u64,
+    tries: u32,
+    answer: &mut RawAnswer,
+) -> Code
+    requires { IsOwnSession session.old.value }
+    ensures { ChangesGrowing (Replace key pointer)
+        session.old.value session.new.value answer.old answer.new result }
+{
+    change(alloc, session, Op::Replace(key, pointer), tries, answer)
+}
+
+/// Replaces a key's pointer, if it is the expected one. It may be under way then as an insertion.
+#[unsafe(no_mangle)]
+pub extern "C" fn blink_growing_session_exchange(
+    alloc: Global,
+    session: &mut GrowingSessionHandle,
+    key: u64,
+    expected: u64,
+    pointer: u64,
+    tries: u32,
+    answer: &mut RawAnswer,
+) -> Code
+    requires { IsOwnSession session.old.value }
+    ensures { ChangesGrowing (Exchange key expected pointer)
+        session.old.value session.new.value answer.old answer.new result }
+{
+    change(alloc, session, Op::Exchange(key, expected, pointer), tries, answer)
+}
+
+/// Removes a key with its pointer, if that is the expected one. It may be under way then as an insertion.
+#[unsafe(no_mangle)]
+pub extern "C" fn blink_growing_session_delete_exact(
+    alloc: Global,
+    session: &mut GrowingSessionHandle,
+    key: u64,
+    expected: u64,
+    tries: u32,
+    answer: &mut RawAnswer,
+) -> Code
+    requires { IsOwnSession session.old.value }
+    ensures { ChangesGrowing (DeleteExact key expected)
+        session.old.value session.new.value answer.old answer.new result }
+{
+    change(alloc, session, Op::DeleteExact(key, expected), tries, answer)
+}
+
+// Runs an operation that changes the map, or begins it.
+fn change(
+    alloc: Global,
+    session: &mut GrowingSessionHandle,
+    op: Op,
+    tries: u32,
+    answer: &mut RawAnswer,
+) -> Code
+    requires its_own { IsOwnSession session.old.value }
+    requires updates { IsUpdate op }
+    requires fits { FitsWords op }
+    ensures { ChangesGrowing op session.old.value session.new.value answer.old answer.new result }
+{
+    code_of(&session.get().change(alloc, op, tries, answer))
+}
+
+/// Takes the next steps of the operation that is under way.
+#[unsafe(no_mangle)]
+pub extern "C" fn blink_growing_session_advance(
+    session: &mut GrowingSessionHandle,
+    tries: u32,
+    answer: &mut RawAnswer,
+) -> Code
+    requires its_own { IsOwnSession session.old.value }
+    ensures its_own { IsOwnSession session.new.value }
+    ensures ended { result ≡ 0
+        → EndsFrom session.old.value.held session.old.value session.new.value answer.new }
+    ensures refused { TellsWhy code_of
+        (IsAdvanceRefusal session.old.value.held session.old.value session.new.value) result }
+    ensures unchanged { result ≢ 0 → answer.new ≡ answer.old }
+{
+    code_of(&session.get().advance(tries, answer))
+}
+
+/// Holds the session until `blink_growing_session_let_go`. Calls on it wait for no renewal then, and the map is neither renewed nor
+/// closed, but for a change of this session that finds the map full.
+#[unsafe(no_mangle)]
+pub extern "C" fn blink_growing_session_hold(
+    session: &mut GrowingSessionHandle,
+    tries: u32,
+) -> Code
+    requires its_own { IsOwnSession session.old.value }
+    ensures its_own { IsOwnSession session.new.value }
+    ensures held { result ≡ 0 → SeesMore session.old.value session.new.value }
+    ensures refused { TellsWhy code_of (IsAway session.old.value session.new.value) result }
+{
+    code_of(&session.get().hold(tries))
+}
+
+/// Lets a session go that is held. One whose operation is under way is let go when that has ended.
+#[unsafe(no_mangle)]
+pub extern "C" fn blink_growing_session_let_go(session: &mut GrowingSessionHandle)
+    requires its_own { IsOwnSession session.old.value }
+    ensures its_own { IsOwnSession session.new.value }
+    ensures same { SeesMore session.old.value session.new.value }
+{
+    session.get().let_go();
+}
+
+/// Frees the handle. The session rests at its place again, which can be taken. An operation under way is driven to its end before. If it
+/// still waits after 1,000 tries, the session is lost, and the map can't be renewed or closed.
+#[unsafe(no_mangle)]
+pub extern "C" fn blink_growing_session_free(session: GrowingSessionHandle)
+    requires its_own { IsOwnSession session.value }
+{
+    Box::into_inner(session.into_box()).free(FREE_TRIES);
+}
