@@ -1,19 +1,24 @@
 -- What a session of a growing map knows goes on from call to call.
-use Rattle.std.proofs.Common.{◌≡◌, ◌∙◌, List, ◌++◌, append_assoc, append-nil, [], ap, refl, sym, subst}
+use Rattle.std.proofs.Common.{◌≡◌, ◌∙◌, List, ◌++◌, append_assoc, append-nil, [], ap, inl, inr, refl, sym, subst}
 use mathlib.Core.List.{IsPrefix}
 use Rattle.blink_batch.specs.declared.Answer.{Answer}
 use Rattle.blink_batch.specs.declared.Entry.{Entry}
 use Rattle.blink_batch.specs.declared.Op.{Op}
 use Rattle.std.specs.Prelude.{ℕ}
+use Rattle.blink_grow.specs.declared.error.GrowError.{GrowError}
+use Rattle.blink_grow.specs.declared.error.GrowError.TheVariants as grow
 use Rattle.blink_grow.specs.declared.growing.GrowingMap.{GrowingMap}
 use Rattle.blink_grow.specs.declared.growing.Session.{Session}
 use Rattle.blink_grow.specs.declared.held.Held.{Held}
 use Rattle.blink_grow.specs.declared.slots.Known.{Known}
-use Rattle.blink_grow.specs.{AnswersFrom, HasSamePlace, IsAnsweredHeld, IsContinued, IsHeldOf, IsSameSession, IsSessionOf, known_by, opening_of, place_of_held}
+use Rattle.blink_grow.specs.{AnswersFrom, HasSamePlace, IsAnsweredHeld, IsContinued, IsHeldOf, IsRefusal, IsSameSession, IsSessionOf, known_by, opening_of, place_of_held}
+use Rattle.blink_owners.specs.declared.grow_refusal.GrowRefusal.{GrowRefusal}
+use Rattle.blink_owners.specs.declared.grow_refusal.GrowRefusal.TheVariants as refused
 use Rattle.blink_owners.specs.declared.growing_session_owner.GrowingSessionOwner.{GrowingSessionOwner}
+use Rattle.blink_owners.specs.GrowCodes.{refusal_of}
 use Rattle.blink_owners.specs.declared.raw.RawAnswer.{RawAnswer}
 use Rattle.blink_owners.specs.Raw.{raw_answer}
-use Rattle.blink_owners.specs.GrowingSessions.{Answers, IsGripped, IsRested, KnowsSame, SeesMore, in_growing, known_in, place_in}
+use Rattle.blink_owners.specs.GrowingSessions.{Answers, IsChangeRefusal, IsGripped, IsRested, IsStartRefusal, KnowsSame, SeesMore, in_growing, known_in, place_in}
 
 pub prefix_through : {A : Type 0} (old mid new : List A) → IsPrefix old mid → IsPrefix mid new → IsPrefix old new
 prefix_through {A} old mid new one other = (one.0 ++ other.0, sym (append_assoc old one.0 other.0) ∙ (ap (λ (l : List A). l ++ other.0) one.1 ∙ other.1))
@@ -99,3 +104,28 @@ answers_through old mid new op given sees answers =
       in_order = answers_sooner (opening_of (in_growing old)) op (place_in old.held) (known_in old.held) (known_in mid.held) (known_in new.held) answers.answer sees.knows here;
       same = record { same_map = answers.same.same_map ∙ sees.same.same_map; same_place = answers.same.same_place ∙ sees.same.same_place };
     }
+
+-- ---- why a change isn't made
+
+pub refused_through : (op : Op) (old mid new : GrowingSessionOwner) (refusal : GrowRefusal) → SeesMore old mid → IsStartRefusal op mid new refusal → IsChangeRefusal op old new refusal
+refused_through op old mid new refused.UnderWay sees (inl busy) =
+    inl (record { pending = busy.pending; is = busy.is; same_op = busy.same_op; sees = sees_through old mid new sees busy.sees })
+refused_through op old mid new refused.UnderWay sees (inr same) = inr (subst (λ (owner : GrowingSessionOwner). SeesMore old owner) (sym same) sees)
+refused_through op old mid new refused.OutOfMemory sees why = (why.0, sees_through old mid new sees why.1)
+refused_through op old mid new refused.TooLarge sees why = (why.0, sees_through old mid new sees why.1)
+refused_through op old mid new refused.Sessions sees why = (why.0, sees_through old mid new sees why.1)
+refused_through op old mid new refused.NoSession sees why = (why.0, sees_through old mid new sees why.1)
+refused_through op old mid new refused.Busy sees why = (why.0, sees_through old mid new sees why.1)
+refused_through op old mid new refused.RowsBusy sees why = (why.0, sees_through old mid new sees why.1)
+refused_through op old mid new refused.Missing sees why = (why.0, sees_through old mid new sees why.1)
+refused_through op old mid new refused.Idle sees why = (why.0, sees_through old mid new sees why.1)
+refused_through op old mid new refused.Closed sees why = (why.0, sees_through old mid new sees why.1)
+
+-- the map couldn't be renewed
+pub not_renewed : (op : Op) (old new : GrowingSessionOwner) (refusal : GrowError) → IsRefusal refusal → SeesMore old new → IsChangeRefusal op old new (refusal_of refusal)
+not_renewed op old new grow.OutOfMemory is sees = (inl refl, sees)
+not_renewed op old new grow.TooLarge is sees = (inr (inl refl), sees)
+not_renewed op old new grow.Busy is sees = (inr (inr (inl refl)), sees)
+not_renewed op old new grow.Sessions (inl is) sees = absurd (cc is)
+not_renewed op old new grow.Sessions (inr (inl is)) sees = absurd (cc is)
+not_renewed op old new grow.Sessions (inr (inr is)) sees = absurd (cc is)

@@ -144,15 +144,25 @@ pub record IsBusyWith (op : Op) (old new : GrowingSessionOwner) : Type 0 where
   pub same_op : op_of pending ≡ op
   pub sees : SeesMore old new
 
--- why the operation hasn't ended: it goes on at the next call; or it isn't made, and the session may have seen more
+-- why the operation isn't made, if it hasn't begun
+abbrev pub IsShortage : GrowRefusal → Type 0
+IsShortage refusal = (refusal ≡ refused.OutOfMemory) ⊎ (refusal ≡ refused.TooLarge) ⊎ (refusal ≡ refused.Busy) ⊎ (refusal ≡ refused.RowsBusy)
+
+-- why the operation hasn't ended: it goes on at the next call; or it isn't made, and the session may have seen more. One that has an
+-- operation under way hasn't
 abbrev pub IsChangeRefusal : Op → GrowingSessionOwner → GrowingSessionOwner → GrowRefusal → Type 0
-IsChangeRefusal op old new refused.UnderWay = IsBusyWith op old new ⊎ (new ≡ old)
-IsChangeRefusal op old new refusal =
+IsChangeRefusal op old new refused.UnderWay = IsBusyWith op old new ⊎ SeesMore old new
+IsChangeRefusal op old new refusal = IsShortage refusal × SeesMore old new
+
+-- the same where it begins: one that has an operation under way stays as it was
+abbrev pub IsStartRefusal : Op → GrowingSessionOwner → GrowingSessionOwner → GrowRefusal → Type 0
+IsStartRefusal op old new refused.UnderWay = IsBusyWith op old new ⊎ (new ≡ old)
+IsStartRefusal op old new refusal =
     ((refusal ≡ refused.OutOfMemory) ⊎ (refusal ≡ refused.TooLarge) ⊎ (refusal ≡ refused.Busy) ⊎ (refusal ≡ refused.RowsBusy)) × SeesMore old new
 
 -- the same of one map: or this is full
 abbrev pub IsNotMade : Op → GrowingSessionOwner → GrowingSessionOwner → NotMade → Type 0
-IsNotMade op old new (Refused refusal) = IsChangeRefusal op old new refusal
+IsNotMade op old new (Refused refusal) = IsStartRefusal op old new refusal
 IsNotMade op old new (Full number) = SeesMore old new
 
 -- ---- an operation that goes on

@@ -137,6 +137,7 @@ impl GrowingSessionOwner {
 
     /// Begins an operation that changes the map, and takes its steps (`GrowingMap::start` of `blink_grow`). Where the map is full, the
     /// call renews it, and begins again.
+    #[tactic(auto, using(crate::proofs::GrowingStays::answers_through, crate::proofs::GrowingStays::refused_through, crate::proofs::GrowingStays::not_renewed, crate::proofs::GrowingStays::sees_through, crate::proofs::GrowingStays::knows_same, crate::proofs::GrowingStays::sees_same))]
     pub fn change(
         &mut self,
         alloc: Global,
