@@ -18,7 +18,7 @@ use Rattle.blink_owners.specs.declared.growing_session_owner.GrowingSessionOwner
 use Rattle.blink_owners.specs.GrowCodes.{refusal_of}
 use Rattle.blink_owners.specs.declared.raw.RawAnswer.{RawAnswer}
 use Rattle.blink_owners.specs.Raw.{raw_answer}
-use Rattle.blink_owners.specs.GrowingSessions.{Answers, IsChangeRefusal, IsGripped, IsRested, IsStartRefusal, KnowsSame, SeesMore, in_growing, known_in, place_in}
+use Rattle.blink_owners.specs.GrowingSessions.{Answers, HasAnswered, IsChangeRefusal, IsGripped, IsRested, IsStartRefusal, KnowsSame, SeesMore, in_growing, known_in, place_in}
 
 pub prefix_through : {A : Type 0} (old mid new : List A) → IsPrefix old mid → IsPrefix mid new → IsPrefix old new
 prefix_through {A} old mid new one other = (one.0 ++ other.0, sym (append_assoc old one.0 other.0) ∙ (ap (λ (l : List A). l ++ other.0) one.1 ∙ other.1))
@@ -65,19 +65,18 @@ known_at_rest old mid new held now gripped same on place rested = record {
       (continued_through (known_in old.held) (known_by held) (known_by now) gripped.knows on);
 }
 
--- an operation of a held session has ended, and the session is put back
-pub answered_at_rest : (old mid new : GrowingSessionOwner) (op : Op) (held now : Held) (answer : Answer) (given : RawAnswer) → IsGripped old.held held → in_growing mid ≡ in_growing old
-    → IsAnsweredHeld (in_growing old) op held now answer → IsRested now mid new → given ≡ raw_answer answer → Answers op old new given
-answered_at_rest old mid new op held now answer given gripped same answered rested is =
-    let place = answered.same_place.same_place ∙ gripped.same_place in
-    let order = answers_sooner (opening_of (in_growing old)) op (place_of_held held) (known_in old.held) (known_by held) (known_by now) answer gripped.knows answered.in_order in
-    let here : AnswersFrom (opening_of (in_growing old)) op (place_in old.held) (known_in old.held) (known_by now) answer =
-    subst (λ (place : ℕ). AnswersFrom (opening_of (in_growing old)) op place (known_in old.held) (known_by now) answer) gripped.same_place order in
+-- an operation of a held session, of this place, has ended, and the session is put back
+pub ended_at_rest : (old mid new : GrowingSessionOwner) (op : Op) (held now : Held) (answer : Answer) (given : RawAnswer) (before : Known) → place_of_held held ≡ place_in old.held → IsContinued before (known_by held)
+    → in_growing mid ≡ in_growing old → IsAnsweredHeld (in_growing old) op held now answer → IsRested now mid new → given ≡ raw_answer answer → HasAnswered op (place_in old.held) before old new given
+ended_at_rest old mid new op held now answer given before place knows same answered rested is =
+    let order = answers_sooner (opening_of (in_growing old)) op (place_of_held held) before (known_by held) (known_by now) answer knows answered.in_order in
+    let here : AnswersFrom (opening_of (in_growing old)) op (place_in old.held) before (known_by now) answer =
+    subst (λ (place : ℕ). AnswersFrom (opening_of (in_growing old)) op place before (known_by now) answer) place order in
     record {
       answer = answer;
       its_answer = is;
-      in_order = subst (λ (known : Known). AnswersFrom (opening_of (in_growing old)) op (place_in old.held) (known_in old.held) known answer) (sym rested.knows) here;
-      same = record { same_map = rested.same_map ∙ same; same_place = rested.same_place ∙ place };
+      in_order = subst (λ (known : Known). AnswersFrom (opening_of (in_growing old)) op (place_in old.held) before known answer) (sym rested.knows) here;
+      same = record { same_map = rested.same_map ∙ same; same_place = rested.same_place ∙ (answered.same_place.same_place ∙ place) };
     }
 
 pub sees_through : (old mid new : GrowingSessionOwner) → SeesMore old mid → SeesMore mid new → SeesMore old new
