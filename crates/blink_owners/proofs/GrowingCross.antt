@@ -4,10 +4,19 @@ use denote.Struct.Declared as struct
 use denote.Enum.Declared as enum
 use Rattle.std.proofs.Crossing as heap
 use Rattle.std.proofs.Crossing.{crosses}
+use Rattle.atomic_table.proofs.shared.Seat.TheSendSync as seat
+use Rattle.blink_map.proofs.map.Map.TheSendSync as map
+use Rattle.blink_map.proofs.PendingsAreSent.{pending_send}
 use Rattle.blink_grow.proofs.growing.Session.TheSendSync as session
 use Rattle.blink_grow.proofs.growing.Unclosed.TheSendSync as unclosed
 use Rattle.blink_grow.proofs.held.Held.TheSendSync as held
-use Rattle.blink_grow.proofs.held.PendingHeld.TheSendSync as pending
+use Rattle.blink_grow.proofs.slots.Current.TheSendSync as current
+use Rattle.blink_grow.specs.contracts.held.PendingHeld as Pending
+use Rattle.blink_grow.specs.contracts.slots.Current as Current
+use Rattle.blink_grow.specs.contracts.slots.SlotView as SlotView
+use Rattle.blink_map.specs.contracts.map.Map as Map
+use Rattle.std.specs.contracts.option.Option as Option
+use Rattle.std.proofs.option.Option.TheSendSync as option
 use Rattle.blink_owners.specs.contracts.growing_owner.GrowingOwner as GrowingOwner
 use Rattle.blink_owners.specs.contracts.growing_session_owner.GrowingHeld as GrowingHeld
 use Rattle.blink_owners.specs.contracts.growing_session_owner.GrowingSessionOwner as GrowingSessionOwner
@@ -22,8 +31,16 @@ pub owner_send : IsSend GrowingOwner.the_row
 owner_send = recorded_send (GrowingOwner.the_field).row _ _ (GrowingOwner.the_type).to_one
     (struct_send (struct.shape GrowingOwner.the_type) (state, (search (sendable, crosses) depth 12, tt)))
 
+-- an operation of a held session: what it was before is a ghost
+pending : IsSend Pending.the_field.row
+pending =
+    struct_send (struct.shape Pending.the_type) (
+      seat.the_send (Option.the_row Current.the_row) SlotView.the_row (option.the_send Current.the_row current.the_send),
+      (search sendable, (heap.Arc-send Map.the_row map.the_send map.the_sync, (search sendable, (pending_send, (search (sendable, crosses) depth 12, tt))))),
+    )
+
 at_hand : IsSend (GrowingHeld.the_field).row
-at_hand = enum_send (enum.shape GrowingHeld.the_type) ((session.the_field_send, tt), ((held.the_field_send, tt), ((pending.the_field_send, tt), (tt, tt))))
+at_hand = enum_send (enum.shape GrowingHeld.the_type) ((session.the_field_send, tt), ((held.the_field_send, tt), ((pending, tt), (tt, tt))))
 
 pub session_owner_send : IsSend GrowingSessionOwner.the_row
 session_owner_send = recorded_send (GrowingSessionOwner.the_field).row _ _ (GrowingSessionOwner.the_type).to_one
