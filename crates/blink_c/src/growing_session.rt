@@ -5,7 +5,7 @@ ghost use Rattle.blink_batch.specs.declared.Op.TheVariants.{Delete, DeleteExact,
 ghost use Rattle.blink_map.specs.{IsUpdate};
 ghost use Rattle.blink_owners.specs.Codes.{TellsWhy};
 ghost use Rattle.blink_owners.specs.GrowCodes.{code_of};
-ghost use Rattle.blink_owners.specs.GrowingSessions.{EndsFrom, Finds, IsAdvanceRefusal, IsAway, IsOwnSession, IsTakeRefusal, Scans, ScansBack, SeesMore, Takes};
+ghost use Rattle.blink_owners.specs.GrowingSessions.{EndsFrom, Finds, IsAdvanceRefusal, IsAway, IsLetGo, IsOwnSession, IsTakeRefusal, KnowsSame, Scans, ScansBack, SeesMore, Takes};
 ghost use Rattle.blink_c.specs.Changing.{ChangesGrowing};
 
 use crate::growing_session_handle::GrowingSessionHandle;
@@ -52,11 +52,7 @@ pub extern "C" fn blink_growing_session_scan(
     ensures unchanged { result ≢ 0
         → (entries.new ≡ entries.old) × (scanned.new ≡ scanned.old) }
 {
-    code_of(
-        &session
-            .get()
-            .scan((lo, hi), tries, entries, scanned),
-    )
+    code_of(&session.get().scan((lo, hi), tries, entries, scanned))
 }
 
 /// Gives the entries whose keys are from `lo` to `hi`, the greatest first, as many as there are places, and tells how far it
@@ -78,11 +74,7 @@ pub extern "C" fn blink_growing_session_scan_back(
     ensures unchanged { result ≢ 0
         → (entries.new ≡ entries.old) × (scanned.new ≡ scanned.old) }
 {
-    code_of(
-        &session
-            .get()
-            .scan_back((lo, hi), tries, entries, scanned),
-    )
+    code_of(&session.get().scan_back((lo, hi), tries, entries, scanned))
 }
 
 /// Takes a snapshot of the entries whose keys are from `lo` to `hi`, as all of them were at one time. It tries so many times, and
@@ -177,7 +169,13 @@ pub extern "C" fn blink_growing_session_exchange(
     ensures { ChangesGrowing (Exchange key expected pointer)
         session.old.value session.new.value answer.old answer.new result }
 {
-    change(alloc, session, Op::Exchange(key, expected, pointer), tries, answer)
+    change(
+        alloc,
+        session,
+        Op::Exchange(key, expected, pointer),
+        tries,
+        answer,
+    )
 }
 
 /// Removes a key with its pointer, if that is the expected one. It may be under way then as an insertion.
@@ -194,7 +192,13 @@ pub extern "C" fn blink_growing_session_delete_exact(
     ensures { ChangesGrowing (DeleteExact key expected)
         session.old.value session.new.value answer.old answer.new result }
 {
-    change(alloc, session, Op::DeleteExact(key, expected), tries, answer)
+    change(
+        alloc,
+        session,
+        Op::DeleteExact(key, expected),
+        tries,
+        answer,
+    )
 }
 
 // Runs an operation that changes the map, or begins it.
@@ -234,10 +238,7 @@ pub extern "C" fn blink_growing_session_advance(
 /// Holds the session until `blink_growing_session_let_go`. Calls on it wait for no renewal then, and the map is neither renewed nor
 /// closed, but for a change of this session that finds the map full.
 #[unsafe(no_mangle)]
-pub extern "C" fn blink_growing_session_hold(
-    session: &mut GrowingSessionHandle,
-    tries: u32,
-) -> Code
+pub extern "C" fn blink_growing_session_hold(session: &mut GrowingSessionHandle, tries: u32) -> Code
     requires its_own { IsOwnSession session.old.value }
     ensures its_own { IsOwnSession session.new.value }
     ensures held { result ≡ 0 → SeesMore session.old.value session.new.value }
@@ -251,7 +252,8 @@ pub extern "C" fn blink_growing_session_hold(
 pub extern "C" fn blink_growing_session_let_go(session: &mut GrowingSessionHandle)
     requires its_own { IsOwnSession session.old.value }
     ensures its_own { IsOwnSession session.new.value }
-    ensures same { SeesMore session.old.value session.new.value }
+    ensures same { KnowsSame session.old.value session.new.value }
+    ensures goes_on { IsLetGo session.old.value.held session.new.value.held }
 {
     session.get().let_go();
 }

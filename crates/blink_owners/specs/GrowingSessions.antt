@@ -8,11 +8,10 @@ use Rattle.blink_batch.specs.declared.Op.{Op}
 use Rattle.blink_batch.specs.{pointer_of}
 use Rattle.blink_live.specs.{after}
 use Rattle.blink_grow.specs.declared.growing.GrowingMap.{GrowingMap}
-use Rattle.blink_grow.specs.declared.growing.Session.{Session}
 use Rattle.blink_grow.specs.declared.held.Held.{Held}
 use Rattle.blink_grow.specs.declared.held.PendingHeld.{PendingHeld}
 use Rattle.blink_grow.specs.declared.slots.Known.{Known}
-use Rattle.blink_grow.specs.{AnswersFrom, HasBegun, IsContinued, IsHeldOf, IsPendingOf, IsSessionOf, held_of, known_by, known_to, op_of, opening_of, place_of, place_of_held}
+use Rattle.blink_grow.specs.{AnswersFrom, IsContinued, IsHeldOf, IsPendingOf, IsSessionOf, held_of, known_by, known_to, op_of, opening_of, place_of, place_of_held}
 use Rattle.blink_owners.specs.declared.raw.RawAnswer.{RawAnswer}
 use Rattle.blink_owners.specs.declared.raw.RawScanned.{RawScanned}
 use Rattle.blink_owners.specs.declared.raw.RawTaken.{RawTaken}
@@ -62,14 +61,25 @@ IsAtHand (Busy pending) = ⊥
 IsAtHand Gone = ⊥
 IsAtHand held = ⊤
 
+-- an operation is under way
+abbrev pub IsUnderWay : GrowingHeld → Type 0
+IsUnderWay (Busy pending) = ⊤
+IsUnderWay held = ⊥
+
+-- no operation was under way, and none is
+pub record StaysAtHand (old new : GrowingSessionOwner) : Type 0 where
+  pub was : IsAtHand old.held
+  pub is : IsAtHand new.held
+
 -- the session is that of the same place, of the same map
 pub record IsOfSame (old new : GrowingSessionOwner) : Type 0 where
   pub same_map : in_growing new ≡ in_growing old
   pub same_place : place_in new.held ≡ place_in old.held
 
--- it may have seen more, and has made no change
+-- no operation is under way. It may have seen more, and has made no change
 pub record SeesMore (old new : GrowingSessionOwner) : Type 0 where
   pub same : IsOfSame old new
+  pub at_hand : StaysAtHand old new
   pub knows : IsContinued (known_in old.held) (known_in new.held)
 
 -- it knows what it knew
@@ -85,14 +95,21 @@ pub record IsGripped (old : GrowingHeld) (held : Held) : Type 0 where
 
 -- the held session is put back
 pub record IsRested (held : Held) (old new : GrowingSessionOwner) : Type 0 where
+  pub at_hand : IsAtHand new.held
   pub same_map : in_growing new ≡ in_growing old
   pub same_place : place_in new.held ≡ place_of_held held
   pub knows : known_in new.held ≡ known_by held
 
--- why a session can't be held: the map was renewed, or about to be, at each look; or an operation is under way. It knows what it knew
+-- why a session can't be held: the map was renewed, or about to be, at each look, and it knows what it knew; or an operation is under
+-- way, and then nothing changes
 pub record IsAway (old new : GrowingSessionOwner) (refusal : GrowRefusal) : Type 0 where
   pub stays : KnowsSame old new
-  pub why : (refusal ≡ refused.Busy) ⊎ ((refusal ≡ refused.UnderWay) × (new ≡ old))
+  pub why : ((refusal ≡ refused.Busy) × StaysAtHand old new) ⊎ ((refusal ≡ refused.UnderWay) × IsUnderWay old.held × (new ≡ old))
+
+-- a session that is let go knows what it knew, and an operation under way goes on
+abbrev pub IsLetGo : GrowingHeld → GrowingHeld → Type 0
+IsLetGo (Busy pending) held = held ≡ Busy pending
+IsLetGo before held = IsAtHand held
 
 -- ---- look-ups
 
@@ -126,43 +143,41 @@ IsTakeRefusal old new refusal = ((refusal ≡ refused.OutOfMemory) × SeesMore o
 
 -- ---- operations that change the map
 
--- the operation of one who knew this has ended, with this answer
+-- the operation of one who knew this has ended, with this answer, and none is under way
 pub record HasAnswered (op : Op) (place : ℕ) (before : Known) (old new : GrowingSessionOwner) (given : RawAnswer) : Type 0 where
+  pub at_hand : IsAtHand new.held
   pub answer : Answer
   pub its_answer : given ≡ raw_answer answer
   pub in_order : AnswersFrom (opening_of (in_growing old)) op place before (known_in new.held) answer
   pub same : IsOfSame old new
 
 -- a session that was at hand has made this operation
-abbrev pub Answers : Op → GrowingSessionOwner → GrowingSessionOwner → RawAnswer → Type 0
-Answers op old new given = HasAnswered op (place_in old.held) (known_in old.held) old new given
+pub record Answers (op : Op) (old new : GrowingSessionOwner) (given : RawAnswer) : Type 0 where
+  pub was : IsAtHand old.held
+  pub ended : HasAnswered op (place_in old.held) (known_in old.held) old new given
 
--- the operation has begun, and goes on at the next call
+-- the operation of a session that was at hand has begun, and goes on at the next call
 pub record IsBusyWith (op : Op) (old new : GrowingSessionOwner) : Type 0 where
+  pub was : IsAtHand old.held
   pub pending : PendingHeld
   pub is : new.held ≡ Busy pending
   pub same_op : op_of pending ≡ op
-  pub sees : SeesMore old new
+  pub same : IsOfSame old new
+  pub knows : IsContinued (known_in old.held) (known_in new.held)
 
 -- why the operation isn't made, if it hasn't begun
 abbrev pub IsShortage : GrowRefusal → Type 0
 IsShortage refusal = (refusal ≡ refused.OutOfMemory) ⊎ (refusal ≡ refused.TooLarge) ⊎ (refusal ≡ refused.Busy) ⊎ (refusal ≡ refused.RowsBusy)
 
--- why the operation hasn't ended: it goes on at the next call; or it isn't made, and the session may have seen more. One that has an
--- operation under way hasn't
+-- why the operation hasn't ended: it goes on at the next call, or another one was under way, and then nothing changes; or it isn't made,
+-- and the session may have seen more
 abbrev pub IsChangeRefusal : Op → GrowingSessionOwner → GrowingSessionOwner → GrowRefusal → Type 0
-IsChangeRefusal op old new refused.UnderWay = IsBusyWith op old new ⊎ SeesMore old new
+IsChangeRefusal op old new refused.UnderWay = IsBusyWith op old new ⊎ (IsUnderWay old.held × (new ≡ old))
 IsChangeRefusal op old new refusal = IsShortage refusal × SeesMore old new
-
--- the same where it begins: one that has an operation under way stays as it was
-abbrev pub IsStartRefusal : Op → GrowingSessionOwner → GrowingSessionOwner → GrowRefusal → Type 0
-IsStartRefusal op old new refused.UnderWay = IsBusyWith op old new ⊎ (new ≡ old)
-IsStartRefusal op old new refusal =
-    ((refusal ≡ refused.OutOfMemory) ⊎ (refusal ≡ refused.TooLarge) ⊎ (refusal ≡ refused.Busy) ⊎ (refusal ≡ refused.RowsBusy)) × SeesMore old new
 
 -- the same of one map: or this is full
 abbrev pub IsNotMade : Op → GrowingSessionOwner → GrowingSessionOwner → NotMade → Type 0
-IsNotMade op old new (Refused refusal) = IsStartRefusal op old new refusal
+IsNotMade op old new (Refused refusal) = IsChangeRefusal op old new refusal
 IsNotMade op old new (Full number) = SeesMore old new
 
 -- ---- an operation that goes on

@@ -1,8 +1,8 @@
 //! What the box of the handle of a growing map's session holds: an owner of the map, and the session or its operation.
-ghost use Rattle.std.specs.Prelude.{◌≡◌, IfErr, IfOk, OnErr, OnOk};
+ghost use Rattle.std.specs.Prelude.{◌≡◌, IfErr, IfOk, IsFalse, IsTrue, OnErr, OnOk};
 ghost use Rattle.blink_batch.specs.{FitsWords};
 ghost use Rattle.blink_grow.specs.{IsHeldOf, IsPendingOf, IsUpdate};
-ghost use Rattle.blink_owners.specs.GrowingSessions.{Answers, EndsFrom, Finds, IsAdvanceRefusal, IsAway, IsChangeRefusal, IsGripped, IsNotMade, IsOwnSession, IsRested, IsTakeRefusal, SeesMore, Scans, ScansBack, Takes, in_growing};
+ghost use Rattle.blink_owners.specs.GrowingSessions.{Answers, EndsFrom, Finds, IsAdvanceRefusal, IsAtHand, IsAway, IsChangeRefusal, IsGripped, IsLetGo, IsNotMade, IsOwnSession, IsRested, IsTakeRefusal, IsUnderWay, KnowsSame, SeesMore, Scans, ScansBack, Takes, in_growing};
 
 use crate::grow_refusal::GrowRefusal;
 use crate::raw::{RawAnswer, RawScanned, RawTaken};
@@ -38,12 +38,7 @@ pub struct GrowingSessionOwner {
 
 impl GrowingSessionOwner {
     /// Looks any key up.
-    pub fn find(
-        &mut self,
-        key: u64,
-        tries: u32,
-        answer: &mut RawAnswer,
-    ) -> Result<(), GrowRefusal>
+    pub fn find(&mut self, key: u64, tries: u32, answer: &mut RawAnswer) -> Result<(), GrowRefusal>
         requires its_own { IsOwnSession self.old }
         ensures its_own { IsOwnSession self.new }
         ensures found { OnOk result (Finds key self.old self.new answer.new) }
@@ -124,7 +119,10 @@ impl GrowingSessionOwner {
     {
         let mut held = self.grip(tries)?;
         let (lo, hi) = range;
-        let found = self.shared.map.snapshot_held(alloc, &mut held, lo, hi, tries);
+        let found = self
+            .shared
+            .map
+            .snapshot_held(alloc, &mut held, lo, hi, tries);
         self.rest(held);
         match found {
             Ok(found) => {
@@ -137,7 +135,6 @@ impl GrowingSessionOwner {
 
     /// Begins an operation that changes the map, and takes its steps (`GrowingMap::start` of `blink_grow`). Where the map is full, the
     /// call renews it, and begins again.
-    #[tactic(auto, using(crate::proofs::GrowingStays::answers_through, crate::proofs::GrowingStays::refused_through, crate::proofs::GrowingStays::not_renewed, crate::proofs::GrowingStays::sees_through, crate::proofs::GrowingStays::knows_same, crate::proofs::GrowingStays::sees_same))]
     pub fn change(
         &mut self,
         alloc: Global,
@@ -146,6 +143,42 @@ impl GrowingSessionOwner {
         answer: &mut RawAnswer,
     ) -> Result<(), GrowRefusal>
         requires its_own { IsOwnSession self.old }
+        requires updates { IsUpdate op }
+        requires fits { FitsWords op }
+        ensures its_own { IsOwnSession self.new }
+        ensures answered { OnOk result (Answers op self.old self.new answer.new) }
+        ensures refused { IfErr result (IsChangeRefusal op self.old self.new) }
+        ensures unchanged { OnErr result (answer.new ≡ answer.old) }
+    {
+        if self.is_under_way() {
+            return Err(GrowRefusal::UnderWay);
+        }
+        self.change_at_hand(alloc, op, tries, answer)
+    }
+
+    // Whether an operation is under way.
+    fn is_under_way(&self) -> bool
+        requires its_own { IsOwnSession self.now }
+        ensures under_way { IsTrue result → IsUnderWay self.now.held }
+        ensures at_hand { IsFalse result → IsAtHand self.now.held }
+    {
+        match &self.held {
+            GrowingHeld::Busy(_) => true,
+            _ => false,
+        }
+    }
+
+    // The same, by a session that is at hand.
+    #[tactic(auto, using(crate::proofs::GrowingStays::answers_through, crate::proofs::GrowingStays::refused_through, crate::proofs::GrowingStays::not_renewed, crate::proofs::GrowingStays::sees_through, crate::proofs::GrowingStays::sees_itself))]
+    fn change_at_hand(
+        &mut self,
+        alloc: Global,
+        op: Op,
+        tries: u32,
+        answer: &mut RawAnswer,
+    ) -> Result<(), GrowRefusal>
+        requires its_own { IsOwnSession self.old }
+        requires at_hand { IsAtHand self.old.held }
         requires updates { IsUpdate op }
         requires fits { FitsWords op }
         ensures its_own { IsOwnSession self.new }
@@ -247,7 +280,8 @@ impl GrowingSessionOwner {
     pub fn let_go(&mut self)
         requires its_own { IsOwnSession self.old }
         ensures its_own { IsOwnSession self.new }
-        ensures same { SeesMore self.old self.new }
+        ensures same { KnowsSame self.old self.new }
+        ensures goes_on { IsLetGo self.old.held self.new.held }
     {
         self.keeps = false;
         match mem::replace(&mut self.held, GrowingHeld::Gone) {
@@ -266,8 +300,9 @@ impl GrowingSessionOwner {
         let mut owner = self;
         let mut answer = RawAnswer::shown(None);
         for _ in 0..tries {
-            if owner.advance(1, &mut answer).is_ok() {
-                break;
+            match owner.advance(1, &mut answer) {
+                Err(GrowRefusal::UnderWay) => {}
+                _ => break,
             }
         }
         owner.let_go();

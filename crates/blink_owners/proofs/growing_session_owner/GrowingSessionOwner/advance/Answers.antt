@@ -1,4 +1,4 @@
-use Rattle.std.proofs.Common.{◌≡◌, ◌∙◌, ap, refl, subst}
+use Rattle.std.proofs.Common.{◌∙◌, ap, refl, subst}
 use Rattle.blink_grow.specs.declared.growing.GrowingMap.{GrowingMap}
 use Rattle.blink_grow.specs.{IsAnsweredHeld, held_of, known_by, op_of, place_of_held}
 use Rattle.blink_owners.specs.declared.grow_refusal.GrowRefusal.TheVariants.{UnderWay}
@@ -6,7 +6,7 @@ use Rattle.blink_owners.specs.declared.growing_session_owner.GrowingHeld.{Growin
 use Rattle.blink_owners.specs.declared.growing_session_owner.GrowingHeld.TheVariants.{Busy}
 use Rattle.blink_owners.specs.declared.growing_session_owner.GrowingSessionOwner.{GrowingSessionOwner}
 use Rattle.blink_owners.specs.declared.shared_growing.SharedGrowing.{SharedGrowing}
-use Rattle.blink_owners.specs.GrowingSessions.{EndsFrom, IsAdvanceRefusal, in_growing, known_in, place_in}
+use Rattle.blink_owners.specs.GrowingSessions.{EndsFrom, IsAdvanceRefusal, known_in, place_in}
 use Rattle.blink_owners.proofs.GrowingStays.{continued_same, ended_at_rest}
 use Rattle.blink_owners.proofs.growing_session_owner.GrowingSessionOwner.advance.Goals as goal
 

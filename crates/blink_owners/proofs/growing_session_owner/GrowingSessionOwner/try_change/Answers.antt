@@ -26,7 +26,10 @@ returns-in-Ok-start-clause-answered c =
     let map_is : c.deref.result.now.map ≡ in_growing old = ap (λ (s : SharedGrowing). s.map) c.deref.ensures ∙ same in
     let answered = subst (λ (map : GrowingMap). IsAnsweredHeld map c.args.op held c.in-Ok-start.held c.in-Ok-start.given) map_is c.in-Ok-start.ensures.answered in
     let gripped = c.in-Ok.ensures.gripped in
-    ended_at_rest old c.grip.new.self c.rest.new.self c.args.op held c.in-Ok-start.held c.in-Ok-start.given c.of.result (known_in old.held) gripped.same_place gripped.knows same answered c.rest.ensures.rested c.of.ensures
+    record {
+      was = gripped.at_hand;
+      ended = ended_at_rest old c.grip.new.self c.rest.new.self c.args.op held c.in-Ok-start.held c.in-Ok-start.given c.of.result (known_in old.held) gripped.same_place gripped.knows same answered c.rest.ensures.rested c.of.ensures;
+    }
 
 pub returns-in-Err-Waits-clause-refused : goal.returns-in-Err-Waits-clause-refused
 returns-in-Err-Waits-clause-refused c =
@@ -34,16 +37,15 @@ returns-in-Err-Waits-clause-refused c =
     let gripped = c.in-Ok.ensures.gripped in
     let begun : HasBegun c.deref.result.now.map c.args.op c.in-Ok.held c.in-Err-Waits.pending = subst (HasStopped c.deref.result.now.map c.args.op c.in-Ok.held) c.in-Err-Waits.field-0-is c.in-Err-Waits.ensures.stopped in
     inl (record {
+      was = gripped.at_hand;
       pending = c.in-Err-Waits.pending;
       is = refl;
       same_op = begun.same_op;
-      sees = record {
-        same = record {
-          same_map = ap (λ (owner : GrowingSessionOwner). in_growing owner) c.in-Ok.ensures.gone;
-          same_place = ap place_of_held begun.same_held ∙ gripped.same_place;
-        };
-        knows = subst (λ (held : Held). IsContinued (known_in old.held) (known_by held)) (sym begun.same_held) gripped.knows;
+      same = record {
+        same_map = ap (λ (owner : GrowingSessionOwner). in_growing owner) c.in-Ok.ensures.gone;
+        same_place = ap place_of_held begun.same_held ∙ gripped.same_place;
       };
+      knows = subst (λ (held : Held). IsContinued (known_in old.held) (known_by held)) (sym begun.same_held) gripped.knows;
     })
 
 pub returns-after-lacks_room_in_all-clause-its_own : goal.returns-after-lacks_room_in_all-clause-its_own
@@ -58,6 +60,7 @@ returns-after-lacks_room_in_all-clause-refused c =
     let stopped = subst (HasStopped c.deref.result.now.map c.args.op c.in-Ok.held) c.in-Err-Full.field-0-is c.in-Err-Full.ensures.stopped in
     let on = stopped.1 in
     let sees : SeesMore old new = record {
+      at_hand = record { was = gripped.at_hand; is = tt };
       same = record {
         same_map = ap (λ (owner : GrowingSessionOwner). in_growing owner) c.in-Ok.ensures.gone;
         same_place = released.same_place.same_place ∙ (on.same_place.same_place ∙ gripped.same_place);
@@ -66,6 +69,6 @@ returns-after-lacks_room_in_all-clause-refused c =
           (continued_through (known_in old.held) (known_by c.in-Ok.held) (known_by c.in-Err-Full.held) gripped.knows on.knows);
     } in
     elim c.if-lacks_room_in_all.branch [
-      then-lacks_room_in_all w ↦ subst (IsNotMade c.args.op old new) (sym w.refusal-is) sees
-    | else-lacks_room_in_all w ↦ subst (IsNotMade c.args.op old new) (sym w.refusal-is) (inr (inr (inr refl)), sees)
+      | then-lacks_room_in_all w ↦ subst (IsNotMade c.args.op old new) (sym w.refusal-is) sees
+      | else-lacks_room_in_all w ↦ subst (IsNotMade c.args.op old new) (sym w.refusal-is) (inr (inr (inr refl)), sees)
     ]

@@ -1,6 +1,6 @@
 use Rattle.std.proofs.Common.{◌≡◌}
 use Rattle.blink_owners.specs.GrowingSessions.{IsOwnSession, SeesMore}
-use Rattle.blink_owners.proofs.growing_session_owner.GrowingSessionOwner.change.Given as goal
+use Rattle.blink_owners.proofs.growing_session_owner.GrowingSessionOwner.change_at_hand.Given as goal
 
 -- nothing is changed so far, though the session may have seen more
 abbrev pub invariant-loop : goal.invariant-loop
