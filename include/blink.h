@@ -855,41 +855,45 @@ static inline int blink_growing_session_finish(blink_growing_session *session, b
     return code;
 }
 
-/* Whether a call with this code has to begin once more; if not, `code` is how it has ended. For the functions below. */
-static inline bool blink_growing_session_again(blink_growing_session *session, int *code, blink_answer *answer) {
+/* Whether a call with this code has to begin once more; if not, `code` is how it has ended. Where the map
+ * couldn't be renewed it has ten times as many tries, up to a million, so that a renewal outlasts a call of a thread that was preempted. For
+ * the functions below. */
+static inline bool blink_growing_session_again(blink_growing_session *session, int *code, uint32_t *tries, blink_answer *answer) {
     if (*code == BLINK_PENDING) *code = blink_growing_session_finish(session, answer);
     if (*code != BLINK_ROWS_BUSY && *code != BLINK_RENEWING) return false;
+    if (*code == BLINK_RENEWING && *tries < 1000000) *tries *= 10;
     sched_yield();
     return true;
 }
 
 /* The body of each change below. A call on a session that has an operation under way ends that one: so there is none. */
-#define BLINK_WAITS(begins)                                      \
-    int code;                                                    \
-    do code = begins;                                            \
-    while (blink_growing_session_again(session, &code, answer)); \
+#define BLINK_WAITS(begins)                                              \
+    uint32_t tries = BLINK_TRIES;                                        \
+    int code;                                                            \
+    do code = begins;                                                    \
+    while (blink_growing_session_again(session, &code, &tries, answer)); \
     return code
 
 static inline int blink_growing_session_insert_wait(blink_growing_session *session, uint64_t key, uint64_t pointer, blink_answer *answer) {
-    BLINK_WAITS(blink_growing_session_insert(session, key, pointer, BLINK_TRIES, answer));
+    BLINK_WAITS(blink_growing_session_insert(session, key, pointer, tries, answer));
 }
 
 static inline int blink_growing_session_delete_wait(blink_growing_session *session, uint64_t key, blink_answer *answer) {
-    BLINK_WAITS(blink_growing_session_delete(session, key, BLINK_TRIES, answer));
+    BLINK_WAITS(blink_growing_session_delete(session, key, tries, answer));
 }
 
 static inline int blink_growing_session_replace_wait(blink_growing_session *session, uint64_t key, uint64_t pointer, blink_answer *answer) {
-    BLINK_WAITS(blink_growing_session_replace(session, key, pointer, BLINK_TRIES, answer));
+    BLINK_WAITS(blink_growing_session_replace(session, key, pointer, tries, answer));
 }
 
 static inline int blink_growing_session_exchange_wait(blink_growing_session *session, uint64_t key, uint64_t expected, uint64_t pointer,
                                                       blink_answer *answer) {
-    BLINK_WAITS(blink_growing_session_exchange(session, key, expected, pointer, BLINK_TRIES, answer));
+    BLINK_WAITS(blink_growing_session_exchange(session, key, expected, pointer, tries, answer));
 }
 
 static inline int blink_growing_session_delete_exact_wait(blink_growing_session *session, uint64_t key, uint64_t expected,
                                                           blink_answer *answer) {
-    BLINK_WAITS(blink_growing_session_delete_exact(session, key, expected, BLINK_TRIES, answer));
+    BLINK_WAITS(blink_growing_session_delete_exact(session, key, expected, tries, answer));
 }
 
 #undef BLINK_WAITS

@@ -3,7 +3,7 @@
 use crate::operation::Answer;
 use crate::range::{snapshot, LiveRange};
 use crate::sys::{self, Code, Handle, RawAnswer, RawEntry, RawScanned, RawTaken};
-use crate::waiting::TRIES;
+use crate::waiting::{MOST_TRIES, TRIES};
 use crate::{Error, Index};
 use std::fmt;
 use std::ops::{Bound, Deref, DerefMut, RangeBounds};
@@ -244,27 +244,27 @@ impl GrowingSession {
     /// [`Error::TooLarge`], if the entries leave too few of the 1,048,575 page numbers. Then it has changed nothing.
     pub fn insert(&mut self, key: u64, pointer: u64) -> Result<Answer, Error> {
         // SAFETY: as in `get`.
-        self.ended(|handle, answer| unsafe { sys::blink_growing_session_insert(handle, key, pointer, TRIES, answer) })
+        self.ended(|handle, tries, answer| unsafe { sys::blink_growing_session_insert(handle, key, pointer, tries, answer) })
     }
 
     /// Takes a key away, if it is there: [`Answer::Removed`] or [`Answer::Absent`].
     pub fn remove(&mut self, key: u64) -> Result<Answer, Error> {
         // SAFETY: as in `get`.
-        self.ended(|handle, answer| unsafe { sys::blink_growing_session_delete(handle, key, TRIES, answer) })
+        self.ended(|handle, tries, answer| unsafe { sys::blink_growing_session_delete(handle, key, tries, answer) })
     }
 
     /// Maps a key to a pointer, if the key is there: [`Answer::Replaced`] or [`Answer::Absent`].
     pub fn replace(&mut self, key: u64, pointer: u64) -> Result<Answer, Error> {
         // SAFETY: as in `get`.
-        self.ended(|handle, answer| unsafe { sys::blink_growing_session_replace(handle, key, pointer, TRIES, answer) })
+        self.ended(|handle, tries, answer| unsafe { sys::blink_growing_session_replace(handle, key, pointer, tries, answer) })
     }
 
     /// Maps a key to `new`, if it maps to `expected`: [`Answer::Replaced`] with `expected`. Else the key stays as it was:
     /// [`Answer::Exists`] with what it maps to, or [`Answer::Absent`]. No other session changes the key between the test and the change.
     pub fn compare_exchange(&mut self, key: u64, expected: u64, new: u64) -> Result<Answer, Error> {
         // SAFETY: as in `get`.
-        self.ended(|handle, answer| unsafe {
-            sys::blink_growing_session_exchange(handle, key, expected, new, TRIES, answer)
+        self.ended(|handle, tries, answer| unsafe {
+            sys::blink_growing_session_exchange(handle, key, expected, new, tries, answer)
         })
     }
 
@@ -272,8 +272,8 @@ impl GrowingSession {
     /// [`Answer::Exists`] with what it maps to, or [`Answer::Absent`]. No other session changes the key between the test and the removal.
     pub fn compare_remove(&mut self, key: u64, expected: u64) -> Result<Answer, Error> {
         // SAFETY: as in `get`.
-        self.ended(|handle, answer| unsafe {
-            sys::blink_growing_session_delete_exact(handle, key, expected, TRIES, answer)
+        self.ended(|handle, tries, answer| unsafe {
+            sys::blink_growing_session_delete_exact(handle, key, expected, tries, answer)
         })
     }
 
@@ -376,15 +376,20 @@ impl GrowingSession {
     }
 
     // Begins an operation, and takes its steps to the end. It begins again where the session's rows were on their way back, and where the map
-    // was being renewed or couldn't be.
-    fn ended(&mut self, mut begin: impl FnMut(*mut Handle, *mut RawAnswer) -> Code) -> Result<Answer, Error> {
+    // was being renewed or couldn't be, with more tries then.
+    fn ended(&mut self, mut begin: impl FnMut(*mut Handle, u32, *mut RawAnswer) -> Code) -> Result<Answer, Error> {
         let mut answer = RawAnswer::NONE;
-        let mut code = begin(&mut self.handle, &mut answer);
+        let mut tries = TRIES;
+        let mut code = begin(&mut self.handle, tries, &mut answer);
         loop {
             code = match code {
                 // SAFETY: as in `get`; an operation is under way.
                 sys::PENDING => unsafe { sys::blink_growing_session_advance(&mut self.handle, TRIES, &mut answer) },
-                sys::ROWS_BUSY | sys::RENEWING => begin(&mut self.handle, &mut answer),
+                sys::ROWS_BUSY => begin(&mut self.handle, tries, &mut answer),
+                sys::RENEWING => {
+                    tries = (10 * tries).min(MOST_TRIES);
+                    begin(&mut self.handle, tries, &mut answer)
+                }
                 code => return Error::check(code).map(|()| Answer::of(answer)),
             };
             if matches!(code, sys::PENDING | sys::ROWS_BUSY | sys::RENEWING) {
