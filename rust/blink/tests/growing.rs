@@ -1,9 +1,17 @@
-//! The growing map: its calls, growth by threads, what becomes of each key while it is renewed, and a queue.
+//! The growing map: its calls, growth by threads, what becomes of each key while it is renewed, queues, and as many sessions as it has.
 
 use blink::{Answer, Error, GrowingMap, GrowingSession, Index};
 use std::collections::BTreeMap;
 use std::sync::atomic::{AtomicBool, Ordering};
 use std::thread;
+
+// The next of a row of numbers that have no order. The state is not 0.
+fn next_random(state: &mut u64) -> u64 {
+    *state ^= *state << 13;
+    *state ^= *state >> 7;
+    *state ^= *state << 17;
+    *state
+}
 
 #[test]
 fn calls_answer_as_those_of_a_map() {
@@ -120,9 +128,7 @@ fn each_key_is_what_its_thread_made_it_while_the_map_is_renewed() {
         let mut own = BTreeMap::new();
         let mut random = 88_172_645_463_325_252 + thread;
         for step in 0..20_000 {
-            random ^= random << 13;
-            random ^= random >> 7;
-            random ^= random << 17;
+            next_random(&mut random);
             let key = 3 * (random % 500) + thread;
             match random >> 32 & 3 {
                 0 => assert_eq!(session.put(key, step).unwrap(), own.insert(key, step)),
@@ -165,4 +171,202 @@ fn each_key_is_what_its_thread_made_it_while_the_map_is_renewed() {
         ended.store(true, Ordering::Relaxed);
     });
     assert_eq!(map.close().unwrap().iter().collect::<Vec<_>>(), all.into_iter().collect::<Vec<_>>());
+}
+
+// ---- a history, with renewals all the while
+
+// So many threads change the map, each its own keys.
+const OWNERS: u64 = 4;
+
+// Each has so many keys at a time. They move up: so the map has few entries and little room, but wants new pages all the while.
+const WINDOW: u64 = 64;
+
+// A pointer tells its key.
+fn pointer(key: u64, step: u64) -> u64 {
+    key << 32 | step
+}
+
+fn is_of_key((key, pointer): (u64, u64)) -> bool {
+    pointer >> 32 == key
+}
+
+// A session with the entries that its keys have to have, which nobody else changes.
+struct Owner {
+    session: GrowingSession,
+    thread: u64,
+    own: BTreeMap<u64, u64>,
+    random: u64,
+}
+
+impl Owner {
+    // The keys that this owner has at a step.
+    fn first_key(&self, step: u64) -> u64 {
+        OWNERS * (step / 2) + self.thread
+    }
+
+    fn end(&self, step: u64) -> u64 {
+        self.first_key(step) + OWNERS * WINDOW
+    }
+
+    // Carries one operation out at a key of its own, and compares the answer.
+    fn change(&mut self, step: u64) {
+        let key = self.first_key(step) + OWNERS * (next_random(&mut self.random) % WINDOW);
+        let new = pointer(key, step);
+        let was = self.own.get(&key).copied();
+        let there = was.map_or(Answer::Absent, Answer::Exists);
+        let session = &mut self.session;
+        match next_random(&mut self.random) % 8 {
+            0..=2 => {
+                assert_eq!(session.insert(key, new), Ok(was.map_or(Answer::Inserted, Answer::Exists)));
+                self.own.entry(key).or_insert(new);
+            }
+            3 => assert_eq!(session.put(key, new), Ok(self.own.insert(key, new))),
+            4 => {
+                assert_eq!(session.replace(key, new), Ok(was.map_or(Answer::Absent, Answer::Replaced)));
+                self.own.entry(key).and_modify(|it| *it = new);
+            }
+            5 => assert_eq!(session.remove(key), Ok(self.own.remove(&key).map_or(Answer::Absent, Answer::Removed))),
+            6 => {
+                // No pointer is the greatest number.
+                assert_eq!(session.compare_exchange(key, u64::MAX, new), Ok(there));
+                assert_eq!(session.compare_remove(key, u64::MAX), Ok(there));
+            }
+            _ => {
+                assert_eq!(session.update(key, |_| Some(new)), Ok(was));
+                self.own.insert(key, new);
+            }
+        }
+        assert_eq!(session.get(key), self.own.get(&key).copied());
+    }
+
+    // Takes away what is below the keys of this step.
+    fn leave_behind(&mut self, step: u64) {
+        let first = self.first_key(step);
+        while let Some((&key, &was)) = self.own.range(..first).next() {
+            assert_eq!(self.session.compare_remove(key, was), Ok(Answer::Removed(was)));
+            self.own.remove(&key);
+        }
+    }
+
+    // Compares its entries with what scans and a snapshot say of its keys.
+    fn look(&mut self, step: u64) {
+        let (first, end, thread) = (self.first_key(step), self.end(step), self.thread);
+        let is_own = |entry: &(u64, u64)| entry.0 % OWNERS == thread;
+        let own: Vec<_> = self.own.iter().map(|(&key, &pointer)| (key, pointer)).collect();
+        assert_eq!(self.session.range(first..end).filter(is_own).collect::<Vec<_>>(), own);
+        let back: Vec<_> = self.session.range(first..end).rev().filter(is_own).collect();
+        assert!(back.iter().eq(own.iter().rev()));
+        if let Some(found) = self.session.snapshot(first..end, 10).unwrap() {
+            assert!(found.iter().copied().all(is_of_key));
+            assert_eq!(found.into_iter().filter(is_own).collect::<Vec<_>>(), own);
+        }
+    }
+}
+
+// A reader beside them: each entry that it finds has a pointer of its key, and scans are in order.
+fn reads(mut session: GrowingSession, ended: &AtomicBool) {
+    let mut random = 362_436_069;
+    while !ended.load(Ordering::Relaxed) {
+        let up: Vec<_> = session.range(..).collect();
+        assert!(up.windows(2).all(|two| two[0].0 < two[1].0) && up.iter().copied().all(is_of_key));
+        let down: Vec<_> = session.range(..).rev().collect();
+        assert!(down.windows(2).all(|two| two[0].0 > two[1].0) && down.iter().copied().all(is_of_key));
+        let mut held = session.hold();
+        for _ in 0..20 {
+            let Some(&(key, _)) = up.get(next_random(&mut random) as usize % up.len().max(1)) else {
+                break;
+            };
+            assert!(held.get(key).map_or(true, |pointer| is_of_key((key, pointer))));
+        }
+    }
+}
+
+#[test]
+fn a_history_goes_on_through_renewals() {
+    const STEPS: u64 = 30_000;
+    let map = GrowingMap::open(&Index::new(4).unwrap(), 1 + OWNERS as u32).unwrap();
+    let ended = AtomicBool::new(false);
+    let mut all = BTreeMap::new();
+    thread::scope(|scope| {
+        let owners: Vec<_> = (0..OWNERS)
+            .map(|thread| {
+                let session = map.session().unwrap();
+                let mut owner = Owner { session, thread, own: BTreeMap::new(), random: 88_172_645_463_325_252 + thread };
+                scope.spawn(move || {
+                    for step in 0..STEPS {
+                        owner.leave_behind(step);
+                        owner.change(step);
+                        if step % 100 == 0 {
+                            owner.look(step);
+                        }
+                    }
+                    owner.own
+                })
+            })
+            .collect();
+        let (session, ended) = (map.session().unwrap(), &ended);
+        scope.spawn(move || reads(session, ended));
+        for owner in owners {
+            all.extend(owner.join().unwrap());
+        }
+        ended.store(true, Ordering::Relaxed);
+    });
+    assert_eq!(map.close().unwrap().iter().collect::<Vec<_>>(), all.into_iter().collect::<Vec<_>>());
+}
+
+// ---- as many sessions as there are
+
+// Each of 256 threads adds keys that lie among those of all others, while the map is renewed.
+#[test]
+fn nothing_is_lost_by_256_sessions_at_once() {
+    const SESSIONS: u64 = 256;
+    const KEYS: u64 = 300;
+    let map = GrowingMap::new(SESSIONS as u32).unwrap();
+    let all_joined = std::sync::Barrier::new(SESSIONS as usize + 1);
+    thread::scope(|scope| {
+        let threads: Vec<_> = (0..SESSIONS)
+            .map(|thread| {
+                let mut session = map.session().unwrap();
+                let all_joined = &all_joined;
+                scope.spawn(move || {
+                    all_joined.wait();
+                    for key in (thread..KEYS * SESSIONS).step_by(SESSIONS as usize) {
+                        assert_eq!(session.insert(key, !key), Ok(Answer::Inserted));
+                    }
+                    session
+                })
+            })
+            .collect();
+        assert_eq!(map.session().unwrap_err(), Error::NoSession);
+        all_joined.wait();
+        assert!(matches!(map.renew(1_000), Ok(()) | Err(Error::Renewing)));
+        for (thread, session) in (0..SESSIONS).zip(threads) {
+            let mut session = session.join().unwrap();
+            assert_eq!(session.get(thread), Some(!thread));
+        }
+    });
+    assert_eq!(map.renew(1), Ok(()));
+    let index = map.close().unwrap();
+    assert_eq!(index.len() as u64, KEYS * SESSIONS);
+    assert!((0..KEYS * SESSIONS).all(|key| index.get(key) == Some(!key)));
+}
+
+// With at most 4 entries in a page nearly each insertion at the end takes a page number. So this queue uses up more than the 1,048,575 that a
+// map has, which would refuse further entries for good.
+#[test]
+fn a_queue_outlives_the_page_numbers_of_a_map() {
+    const LENGTH: u64 = 100;
+    let map = GrowingMap::open(&Index::new(4).unwrap(), 1).unwrap();
+    let mut session = map.session().unwrap();
+    for key in 0..1_200_000 {
+        assert_eq!(session.insert(key, 10 * key), Ok(Answer::Inserted));
+        if let Some(first) = key.checked_sub(LENGTH) {
+            assert_eq!(session.remove(first), Ok(Answer::Removed(10 * first)));
+        }
+        if key % 1_000 == LENGTH {
+            assert_eq!((session.first(), session.last()), (Some((key - LENGTH + 1, 10 * (key - LENGTH + 1))), Some((key, 10 * key))));
+        }
+    }
+    drop(session);
+    assert_eq!(map.close().unwrap().len() as u64, LENGTH);
 }
