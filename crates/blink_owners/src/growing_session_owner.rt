@@ -5,7 +5,7 @@ ghost use Rattle.blink_grow.specs.{IsHeldOf, IsPendingOf, IsUpdate};
 ghost use Rattle.blink_owners.specs.GrowingSessions.{Answers, EndsFrom, Finds, IsAdvanceRefusal, IsAtHand, IsAway, IsChangeRefusal, IsGripped, IsLetGo, IsNotMade, IsOwnSession, IsRested, IsTakeRefusal, IsUnderWay, KnowsSame, SeesMore, Scans, ScansBack, Takes, in_growing};
 
 use crate::grow_refusal::GrowRefusal;
-use crate::raw::{RawAnswer, RawScanned, RawTaken};
+use crate::raw::{REMOVED, RawAnswer, RawScanned, RawTaken};
 use crate::shared_growing::SharedGrowing;
 use blink_batch::{Entry, Op};
 use blink_grow::{Held, PendingHeld, Session, StoppedHeld};
@@ -134,7 +134,7 @@ impl GrowingSessionOwner {
     }
 
     /// Begins an operation that changes the map, and takes its steps (`GrowingMap::start` of `blink_grow`). Where the map is full, the
-    /// call renews it, and begins again.
+    /// call renews it, and begins again. Where a removal has left many empty leaves, it renews the map too, unless it can't for now.
     pub fn change(
         &mut self,
         alloc: Global,
@@ -188,7 +188,10 @@ impl GrowingSessionOwner {
     {
         for _ in 0..RENEWALS {
             match self.try_change(op, tries, answer) {
-                Ok(()) => return Ok(()),
+                Ok(()) => {
+                    self.renew_if_worn(alloc, answer.kind, tries);
+                    return Ok(());
+                }
                 Err(NotMade::Refused(refusal)) => return Err(refusal),
                 Err(NotMade::Full(number)) => {
                     if let Err(refusal) = self.shared.map.try_renew(alloc, Some(number), tries) {
@@ -198,6 +201,13 @@ impl GrowingSessionOwner {
             }
         }
         Err(GrowRefusal::Busy)
+    }
+
+    // Renews the map after a removal, if many of its leaves are empty, unless this session stays held.
+    fn renew_if_worn(&self, alloc: Global, kind: u64, looks: u32) {
+        if kind == REMOVED && !self.keeps {
+            self.shared.map.renew_if_worn(alloc, looks);
+        }
     }
 
     // Begins an operation in the current map, and takes its steps. Where the session lacks room for it there, it is free then.
