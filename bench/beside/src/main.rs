@@ -11,6 +11,8 @@
 //! beside planted         the same with one wrong sum, which it has to find
 //! beside turns           measures finds, changes and scans by turns: of sessions beside those of passes, and scans beside a BTreeMap's
 //! beside changes         times each kind of call once, for bench/changes.sh, which compares two libraries
+//! beside growing         measures the growing map beside the map: finds, a queue, growing from nothing, and renewals
+//! beside queue CHANGES   lets a queue in the growing map live through so many changes, and tells time and memory
 //! beside life            measures the life of a map: joining, opening, and what an insertion uses up
 //! beside tails           measures how long single changes take: the median, and the slowest of a thousand and of ten thousand
 //! beside soak FAN CHANGES
@@ -20,6 +22,7 @@
 //! beside script make|run a script of 40,000 rows, or the answers to one from a BTreeMap; `make small` has 400
 //! ```
 
+mod growing;
 mod map;
 mod ours;
 mod plan;
@@ -116,6 +119,14 @@ fn main() -> Result<(), Box<dyn Error>> {
         [] => all(None),
         ["life"] => {
             ours::life();
+            Ok(())
+        }
+        ["growing"] => {
+            growing::all();
+            Ok(())
+        }
+        ["queue", changes] => {
+            growing::soak(changes.parse()?);
             Ok(())
         }
         ["turns"] => {

@@ -28,14 +28,20 @@ fn measure(title: &str, mut sides: Vec<Round>) {
     }
     println!("{title}:");
     for ((name, _), figures) in sides.iter().zip(&mut figures) {
-        figures.sort_by(f64::total_cmp);
-        println!("    {name}: {:.2} ns ({:.2} to {:.2})", figures[ROUNDS / 2], figures[0], figures[ROUNDS - 1]);
+        let median = median_of(figures);
+        println!("    {name}: {median:.2} ns ({:.2} to {:.2})", figures[0], figures[ROUNDS - 1]);
     }
 }
 
-// Nanoseconds of one of so many items, from the start of the first thread to the end of the last one, where each of these handles works in
-// a thread of its own.
-fn timed<H: Send>(handles: Vec<H>, items: usize, work: impl Fn(H, u64) + Sync) -> f64 {
+/// The figure in the middle. Afterwards all are in ascending order.
+pub fn median_of(figures: &mut [f64]) -> f64 {
+    figures.sort_by(f64::total_cmp);
+    figures[figures.len() / 2]
+}
+
+/// Nanoseconds of one of so many items, from the start of the first thread to the end of the last one, where each of these handles works in
+/// a thread of its own.
+pub fn timed<H: Send>(handles: Vec<H>, items: usize, work: impl Fn(H, u64) + Sync) -> f64 {
     let (start, count) = (Barrier::new(handles.len()), handles.len());
     let times: Vec<(Instant, Instant)> = thread::scope(|scope| {
         let run = |(thread, handle): (usize, H)| {
