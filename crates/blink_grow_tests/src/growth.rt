@@ -131,7 +131,7 @@ fn a_map_is_renewed_after_many_removals(rt: HostRuntime) {
         map.call(&rt, alloc, Op::Delete(key), Answer::Removed(7));
     }
     let (_map, number) = map.number(&rt);
-    same(&rt, &number, &(full + 1));
+    same(&rt, &number, &full.wrapping_add(1));
 }
 
 const SHORT: u64 = 100;
@@ -179,5 +179,5 @@ fn removals_of_a_held_session_are_counted(rt: HostRuntime) {
     map.renew_if_worn(alloc);
     map.renew_if_worn(alloc);
     let (_map, number) = map.number(&rt);
-    same(&rt, &number, &(full + 1));
+    same(&rt, &number, &full.wrapping_add(1));
 }
