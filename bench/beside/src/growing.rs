@@ -14,9 +14,9 @@ const THREADS: usize = 4;
 const FINDS: usize = 200_000;
 // The entries of the queue, the insertions and deletions of all threads, and how many of these go by between two looks at the least key.
 const QUEUE: u64 = 40_000;
-const QUEUED: u64 = 2_000_000;
-const BETWEEN_LOOKS: u64 = 16;
-const GROWN: u64 = 10_000_000;
+const QUEUED: u64 = 400_000;
+const BETWEEN_LOOKS: u64 = 64;
+const GROWN: u64 = 1_000_000;
 const LOOKS: u32 = 1_000_000;
 
 // What a thread does at a queue.
@@ -145,7 +145,7 @@ fn queues() {
     for threads in [1, THREADS] {
         let (mut fixed_figures, mut growing_figures) = ([Vec::new(), Vec::new()], [Vec::new(), Vec::new()]);
         for _ in 0..3 {
-            let map = fixed(&index, 150_000, threads);
+            let map = fixed(&index, 50_000, threads);
             let (change, look) = queue(fixed_sessions(&map, threads));
             fixed_figures[0].push(change);
             fixed_figures[1].push(look);
@@ -167,7 +167,7 @@ fn growth() {
     for threads in [1, THREADS] {
         let insert = |thread: u64, session: &mut dyn FnMut(u64)| (0..GROWN / threads as u64).for_each(|turn| session(key(turn * threads as u64 + thread)));
         let mut by_map = || {
-            let map = fixed(&empty, 700_000, threads);
+            let map = fixed(&empty, 80_000, threads);
             timed(fixed_sessions(&map, threads), GROWN as usize, |mut session, thread| insert(thread, &mut |key| session.push(key)))
         };
         let mut by_growing = || {
@@ -175,7 +175,7 @@ fn growth() {
             timed(growing_sessions(&map, threads), GROWN as usize, |mut session, thread| insert(thread, &mut |key| session.push(key)))
         };
         let figures = by_turns(3, &mut [&mut by_map, &mut by_growing]);
-        println!("An insertion of ten million into an empty map, {threads} threads|{:.0}|{:.0}|", figures[0], figures[1]);
+        println!("An insertion of a million into an empty map, {threads} threads|{:.0}|{:.0}|", figures[0], figures[1]);
     }
 }
 
