@@ -1,6 +1,6 @@
 #!/bin/sh
 # Looks whether the documents say what is there: links and their anchors, paths, must-fail edits, names in backticks, and pictures; that EDITS.md
-# lists each edit, BELIEVE.md quotes the sources, and PROMISES.md cites clauses that there are; that no old word stands in them; that crates name of
+# lists each edit, BELIEVE.md quotes the sources, and PROMISES.md cites clauses that there are; that neither an old word nor a merge's mark stands in them; that crates name of
 # one another's specs what their lists pass on; and that each is short enough: README.md by lines, other documents by words of prose, and tables by the words of a cell. It prints a line for each finding and exits 1, or prints nothing and exits 0.
 # A new old word goes to `old`.
 LC_ALL=C
@@ -38,6 +38,10 @@ done >"$work/found"
 
 # Every .md file, without what a build leaves; of each the lines outside code blocks.
 find . \( -name .git -o -name out -o -name target \) -prune -o -name '*.md' -print | sed 's|^\./||' | sort >"$work/pages"
+
+# The marks that a merge leaves where two texts differ.
+# shellcheck disable=SC2086
+xargs grep -nE '^(<<<<<<<|=======|>>>>>>>)( |$)' $shown <"$work/pages" | sed -E 's/^([^:]*:[0-9]*):.*/\1: the mark of a merge/' >>"$work/found"
 
 lines=$(wc -l <README.md)
 [ "$lines" -le $most_lines ] || echo "README.md: $lines lines, and $most_lines are enough" >>"$work/found"
