@@ -913,7 +913,7 @@ static inline int blink_growing_session_put_wait(blink_growing_session *session,
     }
 }
 
-/* Look a key up, and scan, as the calls do, and wait while the map is renewed. */
+/* Look a key up, scan, and take a snapshot, as the calls do, and wait while the map is renewed. */
 static inline int blink_growing_session_find_wait(blink_growing_session *session, uint64_t key, blink_answer *answer) {
     int code;
     while ((code = blink_growing_session_find(session, key, BLINK_TRIES, answer)) == BLINK_RENEWING) sched_yield();
@@ -931,6 +931,20 @@ static inline int blink_growing_session_scan_back_wait(blink_growing_session *se
                                                        size_t places, blink_scanned *scanned) {
     int code;
     while ((code = blink_growing_session_scan_back(session, lo, hi, BLINK_TRIES, entries, places, scanned)) == BLINK_RENEWING) sched_yield();
+    return code;
+}
+
+static inline int blink_growing_session_snapshot_wait(blink_growing_session *session, uint64_t lo, uint64_t hi, uint32_t tries,
+                                                      blink_entry *entries, size_t places, blink_taken *taken) {
+    int code;
+    while ((code = blink_growing_session_snapshot(session, lo, hi, tries, entries, places, taken)) == BLINK_RENEWING) sched_yield();
+    return code;
+}
+
+/* Holds the session as blink_growing_session_hold does, and waits while the map is renewed. */
+static inline int blink_growing_session_hold_wait(blink_growing_session *session) {
+    int code;
+    while ((code = blink_growing_session_hold(session, BLINK_TRIES)) == BLINK_RENEWING) sched_yield();
     return code;
 }
 

@@ -294,6 +294,7 @@ private:
     friend class Reader;
     friend class Table;
     friend class Map;
+    friend class GrowingMap;
     struct Empty {};
     explicit Index(Empty) {}
 };
@@ -433,6 +434,100 @@ public:
 private:
     Map() = default;
     detail::Handle<blink_map, blink_map_free> handle_;
+};
+
+// The right of one thread to read and change a growing map. Its calls wait while the map is renewed, and their changes renew it where it is full.
+class GrowingSession {
+public:
+    // Holds a session as long as it lives, so that calls find no renewal: a few calls at most, since the map can't be renewed meanwhile.
+    class Hold {
+    public:
+        explicit Hold(GrowingSession &session) : session_(&session) {
+            detail::check(blink_growing_session_hold_wait(&session.handle_));
+        }
+        Hold(const Hold &) = delete;
+        Hold &operator=(const Hold &) = delete;
+        ~Hold() { blink_growing_session_let_go(&session_->handle_); }
+
+    private:
+        GrowingSession *session_;
+    };
+    std::optional<Pointer> find(Key key) {
+        Answer answer{0, 0};
+        detail::check(blink_growing_session_find_wait(&handle_, key, &answer));
+        return detail::pointer_of(answer);
+    }
+    Answer insert(Key key, Pointer pointer) {
+        return ended([=](auto *it, Answer *answer) { return blink_growing_session_insert_wait(it, key, pointer, answer); });
+    }
+    Answer remove(Key key) {
+        return ended([=](auto *it, Answer *answer) { return blink_growing_session_delete_wait(it, key, answer); });
+    }
+    Answer replace(Key key, Pointer pointer) {
+        return ended([=](auto *it, Answer *answer) { return blink_growing_session_replace_wait(it, key, pointer, answer); });
+    }
+    Answer exchange(Key key, Pointer expected, Pointer pointer) {
+        return ended([=](auto *it, Answer *answer) { return blink_growing_session_exchange_wait(it, key, expected, pointer, answer); });
+    }
+    Answer remove_exact(Key key, Pointer expected) {
+        return ended([=](auto *it, Answer *answer) { return blink_growing_session_delete_exact_wait(it, key, expected, answer); });
+    }
+    // Maps the key to the pointer, and returns the one that was there.
+    std::optional<Pointer> put(Key key, Pointer pointer) {
+        return detail::pointer_of(ended([=](auto *it, Answer *answer) { return blink_growing_session_put_wait(it, key, pointer, answer); }));
+    }
+    std::vector<Entry> scan(Key lo, Key hi) {
+        return detail::scanned(&handle_, [](auto... all) { return blink_growing_session_scan_wait(all...); }, lo, hi);
+    }
+    // The same from the greatest key down.
+    std::vector<Entry> scan_back(Key lo, Key hi) {
+        return detail::scanned_back(&handle_, [](auto... all) { return blink_growing_session_scan_back_wait(all...); }, lo, hi);
+    }
+    std::optional<std::vector<Entry>> snapshot(Key lo, Key hi, std::uint32_t tries) {
+        return detail::snapshot(&handle_, [](auto... all) { return blink_growing_session_snapshot_wait(all...); }, lo, hi, tries);
+    }
+    blink_growing_session *handle() noexcept { return &handle_; }
+
+private:
+    friend class GrowingMap;
+    GrowingSession() = default;
+    template <class Call> Answer ended(Call call) {
+        Answer answer{0, 0};
+        detail::check(call(&handle_, &answer));
+        return answer;
+    }
+    detail::Handle<blink_growing_session, blink_growing_session_free> handle_;
+};
+
+// A map that has no room to be told: where it is full it goes on in a larger one. One thread at a time uses an object of it, so another one
+// that joins needs one of its own, by share.
+class GrowingMap {
+public:
+    GrowingMap(Index &index, std::uint32_t sessions) { detail::check(blink_growing_open(&index.handle_, sessions, &handle_)); }
+    GrowingMap share() {
+        GrowingMap map;
+        detail::check(blink_growing_share(&handle_, &map.handle_));
+        return map;
+    }
+    GrowingSession join() {
+        GrowingSession session;
+        detail::check(blink_growing_join(&handle_, &session.handle_));
+        return session;
+    }
+    // Renews it in good time. Error BLINK_RENEWING, if a session is held or in a call at each of so many looks, leaves it as it was.
+    void renew(std::uint32_t looks = BLINK_TRIES) { detail::check(blink_growing_renew(&handle_, looks)); }
+    // Gives the index of all entries, once each session and each other object of the map is destroyed. A refused close may be called
+    // again, and has lost nothing.
+    Index close() {
+        Index index{Index::Empty()};
+        detail::check(blink_growing_close(&handle_, &index.handle_));
+        return index;
+    }
+    blink_growing *handle() noexcept { return &handle_; }
+
+private:
+    GrowingMap() = default;
+    detail::Handle<blink_growing, blink_growing_free> handle_;
 };
 
 // The right of one thread to change keys of its own in a table, and to look at all keys.

@@ -1,4 +1,4 @@
-"""blink.h for Python, by ctypes: an index, readers, a map and a table, whose keys and pointers are integers from 0 to 2**64 - 1.
+"""blink.h for Python, by ctypes: an index, readers, a map, a growing map and a table, whose keys and pointers are integers from 0 to 2**64 - 1.
 
 This file is the whole module; copy it beside your program, or name its folder by PYTHONPATH. It loads libblink.so.0, which ./libblink
 builds: from the folder that the environment names as BLINK_LIB_DIR, and from no other; or, where that isn't set, from `out` of the
@@ -17,6 +17,7 @@ closed raises ValueError.
     assert index.scan(0, 9) == [(7, 70), (8, 80)]
 """
 
+import contextlib
 import ctypes
 import itertools
 import os
@@ -153,7 +154,22 @@ def _declared():
         yield f"blink_pass_begin_{it}", CODE, handle, u64, u64
     yield "blink_pass_begin_delete", CODE, handle, u64
     yield "blink_pass_begin_exchange", CODE, handle, u64, u64, u64
-    for it in "index", "reader", "map", "session", "table", "pass":
+    yield "blink_growing_open", CODE, handle, u32, handle
+    yield "blink_growing_join", CODE, handle, handle
+    yield "blink_growing_renew", CODE, handle, u32
+    yield "blink_growing_close", CODE, handle, handle
+    yield "blink_growing_session_find", CODE, handle, u64, u32, answer
+    for it in "scan", "scan_back":
+        yield f"blink_growing_session_{it}", CODE, handle, u64, u64, u32, entry, size, scanned
+    yield "blink_growing_session_snapshot", CODE, handle, u64, u64, u32, entry, size, taken
+    for it in "insert", "replace", "delete_exact":
+        yield f"blink_growing_session_{it}", CODE, handle, u64, u64, u32, answer
+    yield "blink_growing_session_delete", CODE, handle, u64, u32, answer
+    yield "blink_growing_session_exchange", CODE, handle, u64, u64, u64, u32, answer
+    yield "blink_growing_session_advance", CODE, handle, u32, answer
+    yield "blink_growing_session_hold", CODE, handle, u32
+    yield "blink_growing_session_let_go", None, handle
+    for it in "index", "reader", "map", "session", "table", "pass", "growing", "growing_session":
         yield f"blink_{it}_free", None, _Handle
 
 
@@ -292,7 +308,7 @@ class _Owner:
 
 
 class _Updates:
-    """The changes of an index, a session and a pass, each by its `_changes`."""
+    """The changes of an index, of sessions and of a pass, each by its `_changes`."""
 
     def insert(self, key, pointer):
         return self._changes("insert", key, pointer)
@@ -457,7 +473,7 @@ class Reader(_Reads):
 
 
 class _Ranges(_Owner):
-    """What sessions and passes have in common. Callers hold the lock throughout, so that nothing comes between two steps."""
+    """What sessions and passes read."""
 
     def _found(self, name, key):
         answer = _Answer()
@@ -481,12 +497,19 @@ class _Ranges(_Owner):
         places, lo, hi, tries = 256, _number(lo), _number(hi), _number(tries, 32)
         while True:
             entries, taken = (_Entry * places)(), _Taken()
-            _check(self._call("snapshot", lo, hi, tries, entries, places, taken))
+            _check(self._snapshot(lo, hi, tries, entries, places, taken))
             if not taken.taken:
                 return None
             if taken.there <= places:
                 return _pairs(entries, taken.there)
             places = taken.there
+
+    def _snapshot(self, *values):
+        return self._call("snapshot", *values)
+
+
+class _Seat(_Ranges):
+    """What the sessions of a map and passes have in common. Callers hold the lock throughout, so that nothing comes between two steps."""
 
     def tell(self, other):
         """Tells the other one what this one has seen."""
@@ -514,7 +537,7 @@ class _Ranges(_Owner):
                     return Answer(answer.kind, answer.pointer)
 
 
-class Session(_Ranges, _Updates):
+class Session(_Seat, _Updates):
     """The right to read and change a map, for a thread. `Map.join` gives it; its place is free again once it is freed."""
 
     _kind = "session"
@@ -564,7 +587,102 @@ class Map(_Owner):
         return index
 
 
-class Pass(_Ranges, _Updates):
+class GrowingSession(_Ranges, _Updates):
+    """The right to read and change a growing map, for a thread. `GrowingMap.join` gives it; its place is free again once it is freed. Its
+    calls wait while the map is renewed, and its changes renew it where it is full."""
+
+    _kind = "growing_session"
+
+    def __init__(self):
+        raise TypeError("GrowingMap.join gives sessions")
+
+    def _waits(self, call):
+        """Calls with so many tries until the map isn't renewed meanwhile, and returns the code."""
+        with self._lock:
+            while (code := call(_TRIES)) == CODES["RENEWING"]:
+                time.sleep(0)
+            return code
+
+    def _found(self, name, key):
+        key, answer = _number(key), _Answer()
+        _check(self._waits(lambda tries: self._call(name, key, tries, answer)))
+        return answer.pointer if answer.kind == FOUND else None
+
+    def _scan(self, lo, hi, most=_MOST):
+        return self._parts(lo, most, lambda key, *part: self._waits(lambda tries: self._call("scan", key, hi, tries, *part)))
+
+    def _scan_back(self, lo, hi, most=_MOST):
+        return self._parts(hi, most, lambda key, *part: self._waits(lambda tries: self._call("scan_back", lo, key, tries, *part)))
+
+    def _snapshot(self, *values):
+        return self._waits(lambda tries: self._call("snapshot", *values))
+
+    def _changes(self, name, *values):
+        """As the functions of blink.h that wait: where the map can't be renewed, each new try looks ten times as often, up to a million."""
+        values, answer, tries = [_number(value) for value in values], _Answer(), _TRIES
+        with self._lock:
+            code = self._call(name, *values, tries, answer)
+            while code in (CODES["PENDING"], CODES["ROWS_BUSY"], CODES["RENEWING"]):
+                time.sleep(0)
+                if code == CODES["PENDING"]:
+                    code = self._call("advance", _TRIES, answer)
+                else:
+                    tries = min(10 * tries, 1_000_000) if code == CODES["RENEWING"] else tries
+                    code = self._call(name, *values, tries, answer)
+            _check(code)
+            return Answer(answer.kind, answer.pointer)
+
+    def put(self, key, pointer):
+        """Maps the key to the pointer, and returns the pointer that was there, or None."""
+        while True:
+            answer = self.replace(key, pointer)
+            if answer.kind == REPLACED:
+                return answer.pointer
+            if self.insert(key, pointer).kind == INSERTED:
+                return None
+
+    @contextlib.contextmanager
+    def hold(self):
+        """Holds the session, so that its calls find no renewal: a few calls at most, since the map can't be renewed meanwhile."""
+        with self._lock:
+            _check(self._waits(lambda tries: self._call("hold", tries)))
+            try:
+                yield self
+            finally:
+                self._call("let_go")
+
+
+class GrowingMap(_Owner):
+    """The entries of an index, which threads change together, each by a session. It has no room to be told: where it is full it goes on in
+    a larger one."""
+
+    _kind = "growing"
+
+    def __init__(self, index, sessions):
+        super().__init__()
+        sessions = _number(sessions, 32)
+        if type(index) is not Index:
+            raise TypeError("it is opened over an Index")
+        with index._lock:
+            index._is_open()
+            _check(_library.blink_growing_open(index._handle, sessions, self._handle))
+
+    def join(self):
+        return GrowingSession._filled(lambda out: self._call("join", out))
+
+    def renew(self, looks=_TRIES):
+        """Renews it in good time. Error RENEWING, if a session is held or in a call at each of so many looks, leaves it as it was."""
+        _check(self._call("renew", _number(looks, 32)))
+
+    def close(self):
+        """Gives the index of all entries, once each session is freed. A refused close may be called again, and has lost
+        nothing."""
+        index = Index._filled(lambda out: self._call("close", out))
+        self.free()
+        return index
+
+
+class Pass(_Seat, _Updates):
     """The right to change some keys of a table, and to look at all, for a thread. `Table.deal` gives it."""
 
     _kind = "pass"

@@ -1,4 +1,4 @@
-// Uses each type of blink.hpp: an index, readers in two threads, a map that eight threads change, and a table. Run: all_calls
+// Uses each type of blink.hpp: an index, readers in two threads, a map that eight threads change, a growing map, and a table. Run: all_calls
 #include <blink.hpp>
 #include <cstdio>
 #include <cstdlib>
@@ -118,6 +118,45 @@ static void shares_a_map() {
     for (std::uint64_t key = 6; key < KEYS; key++) CHECK(closed.find(key) == THREADS * TURNS);
 }
 
+// Four threads insert ten thousand keys together into a map of no room: no insertion is refused, and none is lost.
+static void shares_a_growing_map() {
+    enum { THREADS = 4, KEYS = 10000 };
+    blink::Index index(16);
+    index.insert(1000000, 1);
+    blink::GrowingMap map(index, THREADS);
+    std::vector<std::thread> threads;
+    for (int i = 0; i < THREADS; i++)
+        threads.emplace_back([session = map.join()]() mutable {
+            for (std::uint64_t key = 0; key < KEYS; key++) {
+                auto kind = session.insert(key, key).kind;
+                CHECK(kind == BLINK_INSERTED || kind == BLINK_EXISTS);
+            }
+        });
+    for (auto &thread : threads) thread.join();
+    threads.clear();
+    blink::GrowingSession one = map.join(), other = map.join();
+    CHECK(other.scan(0, KEYS).size() == KEYS && other.find(1000000) == 1u && !other.find(KEYS) && other.scan(7, 7)[0].pointer == 7);
+    CHECK(other.scan_back(0, 2000000)[1].key == KEYS - 1 && other.snapshot(1, KEYS, 10)->size() == KEYS - 1);
+    CHECK(one.put(5, 7) == 5u && !one.put(20000, 8) && is(one.replace(20000, 9), BLINK_REPLACED, 8));
+    CHECK(is(one.exchange(5, 6, 8), BLINK_EXISTS, 7) && is(one.exchange(5, 7, 8), BLINK_REPLACED, 7));
+    CHECK(is(one.remove_exact(5, 7), BLINK_EXISTS, 8) && is(one.remove_exact(5, 8), BLINK_REMOVED, 8) && is(one.remove(6), BLINK_REMOVED, 6));
+    {
+        blink::GrowingSession::Hold held(one);
+        CHECK(one.find(20000) == 9u && is(one.insert(5, 50), BLINK_INSERTED, 0) && refused(BLINK_RENEWING, [&] { map.renew(); }));
+    }
+    map.renew();
+    {
+        blink::GrowingMap same = map.share();
+        blink::GrowingSession third = same.join();
+        CHECK(third.find(5) == 50u && refused(BLINK_NO_SESSION, [&] { auto fourth = same.join(), fifth = same.join(); }));
+    }
+    CHECK(refused(BLINK_SESSION_MISSING, [&] { map.close(); }));
+    { blink::GrowingSession gone = std::move(one), gone_too = std::move(other); }
+    blink::Index closed = map.close();
+    CHECK(closed.size() == KEYS + 1 && closed.find(20000) == 9u && !closed.find(6) && index.size() == 1);
+    CHECK(refused(BLINK_BAD_SESSIONS, [&] { blink::GrowingMap(index, 257); }));
+}
+
 static void shares_a_table() {
     blink::Index index(16);
     blink::Table table(index, 2000, 10);
@@ -152,6 +191,7 @@ int main() {
     uses_an_index();
     shares_an_index();
     shares_a_map();
+    shares_a_growing_map();
     shares_a_table();
     std::puts("all calls are as expected");
 }

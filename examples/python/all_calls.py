@@ -46,7 +46,7 @@ def compares_with_the_header(folder):
         if name == "blink_version":
             continue
         there, wanted = prototypes[name]
-        wanted = [re.sub(r"^blink_(index|reader|table|pass|map|session)\b", "handle", it).replace("size_t", "uint64_t") for it in wanted]
+        wanted = [re.sub(r"^blink_(index|reader|table|pass|map|session|growing|growing_session)\b", "handle", it).replace("size_t", "uint64_t") for it in wanted]
         assert [said(it) for it in parameters] == wanted, name
         assert ("void" if result is None else said(result)) == there.replace("size_t", "uint64_t"), name
     version = re.search(r'^#define BLINK_VERSION "(.*)"$', text, re.M)[1]
@@ -172,6 +172,40 @@ def shares_a_map():
     assert refuses(blink.Error, left.close).name == "SESSION_MISSING" and session.find(5) is None
 
 
+def shares_a_growing_map():
+    """Four threads insert ten thousand keys together into a map of no room: no insertion is refused, and none is lost."""
+    index = blink.Index(16, [(MOST, 1)])
+    shared = blink.GrowingMap(index, sessions=4)
+
+    def inserts(session):
+        with session:
+            for key in range(10_000):
+                assert session.insert(key, key).kind in (INSERTED, EXISTS)
+
+    in_threads(inserts, [shared.join() for _ in range(4)])
+    one, other = shared.join(), shared.join()
+    assert other.scan(0, 10_000) == [(key, key) for key in range(10_000)] and other.find(MOST) == 1 and other.find(10_000) is None
+    assert other.scan_back(0, MOST)[:2] == [(MOST, 1), (9_999, 9_999)] and len(other.snapshot(1, 9_999)) == 9_999
+    assert other.snapshot(0, 1, tries=0) is None or other.snapshot(0, 1) == [(0, 0), (1, 1)]
+    assert one.put(5, 7) == 5 and one.put(20_000, 8) is None and one.replace(20_000, 9) == (REPLACED, 8)
+    assert one.exchange(5, 6, 8) == (EXISTS, 7) and one.exchange(5, 7, 8) == (REPLACED, 7)
+    assert one.remove_exact(5, 7) == (EXISTS, 8) and one.remove_exact(5, 8) == (REMOVED, 8) and one.remove(6) == (REMOVED, 6)
+    with one.hold():
+        assert one.find(20_000) == 9 and one.insert(5, 50) == (INSERTED, 0)
+        assert refuses(blink.Error, shared.renew).name == "RENEWING"
+    shared.renew()
+    assert one.find(5) == 50 and refuses(blink.Error, shared.close).name == "SESSION_MISSING"
+    more = [shared.join() for _ in range(2)]
+    assert refuses(blink.Error, shared.join).name == "NO_SESSION"
+    for session in more + [one, other]:
+        session.free()
+    closed = shared.close()
+    refuses(ValueError, shared.join)
+    assert len(closed) == 10_001 and closed.find(20_000) == 9 and closed.find(6) is None and len(index) == 1
+    assert refuses(blink.Error, blink.GrowingMap, index, 257).name == "BAD_SESSIONS"
+    refuses(TypeError, blink.GrowingMap, 4, 4)
+
+
 def shares_a_table():
     index = blink.Index()
     table = blink.Table(index, 200, 10)
@@ -207,5 +241,6 @@ compares_with_the_header(pathlib.Path(sys.argv[1]) if len(sys.argv) > 1 else top
 uses_an_index()
 shares_an_index()
 shares_a_map()
+shares_a_growing_map()
 shares_a_table()
 print("all calls are as expected")

@@ -1,5 +1,6 @@
 //! The map that grows, and its sessions.
 
+use crate::changes::Changes;
 use crate::operation::Answer;
 use crate::range::{snapshot, LiveRange};
 use crate::sys::{self, Code, Handle, RawAnswer, RawEntry, RawScanned, RawTaken};
@@ -315,21 +316,8 @@ impl GrowingSession {
     /// assert_eq!(session.get(5), None);
     /// # Ok::<(), blink::Error>(())
     /// ```
-    pub fn update(&mut self, key: u64, mut next: impl FnMut(Option<u64>) -> Option<u64>) -> Result<Option<u64>, Error> {
-        let mut present = self.get(key);
-        loop {
-            let tried = match (present, next(present)) {
-                (None, None) => return Ok(None),
-                (Some(seen), Some(new)) if new == seen => return Ok(present),
-                (Some(seen), Some(new)) => self.compare_exchange(key, seen, new)?,
-                (Some(seen), None) => self.compare_remove(key, seen)?,
-                (None, Some(new)) => self.insert(key, new)?,
-            };
-            if tried.changed() {
-                return Ok(present);
-            }
-            present = tried.pointer();
-        }
+    pub fn update(&mut self, key: u64, next: impl FnMut(Option<u64>) -> Option<u64>) -> Result<Option<u64>, Error> {
+        self.updated(key, next)
     }
 
     /// Takes the entry of the least key away, and returns it; none, if a scan found none. Of two sessions that take entries at once, each
@@ -346,22 +334,28 @@ impl GrowingSession {
     /// # Ok::<(), blink::Error>(())
     /// ```
     pub fn pop_first(&mut self) -> Result<Option<(u64, u64)>, Error> {
-        while let Some((key, pointer)) = self.first() {
-            if self.compare_remove(key, pointer)?.changed() {
-                return Ok(Some((key, pointer)));
-            }
-        }
-        Ok(None)
+        self.popped(GrowingSession::first)
     }
 
     /// Takes the entry of the greatest key away, in the same way.
     pub fn pop_last(&mut self) -> Result<Option<(u64, u64)>, Error> {
-        while let Some((key, pointer)) = self.last() {
-            if self.compare_remove(key, pointer)?.changed() {
-                return Ok(Some((key, pointer)));
-            }
-        }
-        Ok(None)
+        self.popped(GrowingSession::last)
+    }
+
+    /// Takes away each entry that a scan of the range reports and `keeps` doesn't want, in ascending order, and returns how many it took, as
+    /// [`Session::retain`](crate::Session::retain) does.
+    ///
+    /// ```
+    /// use blink::{GrowingMap, Index};
+    ///
+    /// let map = GrowingMap::open(&Index::from_entries(8, [(1, 10), (2, 20), (3, 30)])?, 1)?;
+    /// let mut session = map.session()?;
+    /// assert_eq!(session.retain(.., |key, _| key % 2 == 1)?, 1);
+    /// assert_eq!(session.range(..).map(|(key, _)| key).collect::<Vec<_>>(), [1, 3]);
+    /// # Ok::<(), blink::Error>(())
+    /// ```
+    pub fn retain(&mut self, range: impl RangeBounds<u64>, keeps: impl FnMut(u64, u64) -> bool) -> Result<usize, Error> {
+        self.retained(range.start_bound().cloned(), range.end_bound().cloned(), keeps)
     }
 
     /// Holds the session: the calls on it wait for no renewal, until the [`Holding`] is dropped. Meanwhile the map is neither renewed nor
@@ -396,6 +390,28 @@ impl GrowingSession {
                 thread::yield_now();
             }
         }
+    }
+}
+
+impl Changes for GrowingSession {
+    fn looked_up(&mut self, key: u64) -> Option<u64> {
+        self.get(key)
+    }
+
+    fn entries(&mut self, from: Bound<u64>, to: Bound<u64>) -> LiveRange<'_> {
+        self.range((from, to))
+    }
+
+    fn inserted(&mut self, key: u64, pointer: u64) -> Result<Answer, Error> {
+        self.insert(key, pointer)
+    }
+
+    fn exchanged(&mut self, key: u64, expected: u64, new: u64) -> Result<Answer, Error> {
+        self.compare_exchange(key, expected, new)
+    }
+
+    fn taken(&mut self, key: u64, expected: u64) -> Result<Answer, Error> {
+        self.compare_remove(key, expected)
     }
 }
 

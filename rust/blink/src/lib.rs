@@ -57,6 +57,7 @@
 //! but by what orders memory itself.
 #![warn(missing_docs)]
 
+mod changes;
 mod collection;
 mod error;
 mod growing;

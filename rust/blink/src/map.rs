@@ -1,5 +1,6 @@
 //! The map and its sessions.
 
+use crate::changes::Changes;
 use crate::range::{snapshot, LiveRange};
 use crate::sys::{self, Code, Handle, RawAnswer};
 use crate::waiting::TRIES;
@@ -460,12 +461,7 @@ impl<'map> Session<'map> {
     /// # Ok::<(), blink::Error>(())
     /// ```
     pub fn pop_first(&mut self) -> Result<Option<(u64, u64)>, Error> {
-        while let Some((key, pointer)) = self.first() {
-            if self.compare_remove(key, pointer)?.changed() {
-                return Ok(Some((key, pointer)));
-            }
-        }
-        Ok(None)
+        self.popped(Session::first)
     }
 
     /// Takes the entry of the greatest key away, in the same way: a greater key that another session inserts meanwhile may be passed over.
@@ -482,12 +478,7 @@ impl<'map> Session<'map> {
     /// # Ok::<(), blink::Error>(())
     /// ```
     pub fn pop_last(&mut self) -> Result<Option<(u64, u64)>, Error> {
-        while let Some((key, pointer)) = self.last() {
-            if self.compare_remove(key, pointer)?.changed() {
-                return Ok(Some((key, pointer)));
-            }
-        }
-        Ok(None)
+        self.popped(Session::last)
     }
 
     /// Takes away each entry that a scan of the range reports and `keeps` doesn't want, in ascending order, and returns how many it took.
@@ -505,23 +496,8 @@ impl<'map> Session<'map> {
     /// assert_eq!(session.range(..).map(|(key, _)| key).collect::<Vec<_>>(), [1, 3]);
     /// # Ok::<(), blink::Error>(())
     /// ```
-    pub fn retain(&mut self, range: impl RangeBounds<u64>, mut keeps: impl FnMut(u64, u64) -> bool) -> Result<usize, Error> {
-        let end = range.end_bound().cloned();
-        let (mut taken, mut from) = (0, range.start_bound().cloned());
-        loop {
-            // The scan borrows the session, so some entries are reported before the first of them is taken away.
-            let mut part = [(0, 0); 64];
-            let reported = part.iter_mut().zip(self.range((from, end))).map(|(place, entry)| *place = entry).count();
-            for &(key, pointer) in &part[..reported] {
-                if !keeps(key, pointer) && self.compare_remove(key, pointer)?.changed() {
-                    taken += 1;
-                }
-                from = Bound::Excluded(key);
-            }
-            if reported < part.len() {
-                return Ok(taken);
-            }
-        }
+    pub fn retain(&mut self, range: impl RangeBounds<u64>, keeps: impl FnMut(u64, u64) -> bool) -> Result<usize, Error> {
+        self.retained(range.start_bound().cloned(), range.end_bound().cloned(), keeps)
     }
 
     /// Returns the entries whose keys are in the range, in ascending order, while other sessions change the map. A key that is there
@@ -667,21 +643,8 @@ impl<'map> Session<'map> {
     /// assert_eq!(session.get(5), None);
     /// # Ok::<(), blink::Error>(())
     /// ```
-    pub fn update(&mut self, key: u64, mut next: impl FnMut(Option<u64>) -> Option<u64>) -> Result<Option<u64>, Error> {
-        let mut present = self.get(key);
-        loop {
-            let tried = match (present, next(present)) {
-                (None, None) => return Ok(None),
-                (Some(seen), Some(new)) if new == seen => return Ok(present),
-                (Some(seen), Some(new)) => self.compare_exchange(key, seen, new)?,
-                (Some(seen), None) => self.compare_remove(key, seen)?,
-                (None, Some(new)) => self.insert(key, new)?,
-            };
-            if tried.changed() {
-                return Ok(present);
-            }
-            present = tried.pointer();
-        }
+    pub fn update(&mut self, key: u64, next: impl FnMut(Option<u64>) -> Option<u64>) -> Result<Option<u64>, Error> {
+        self.updated(key, next)
     }
 
     /// Maps a key to a pointer, whether the key is there or not, and returns the pointer that was there. A key that is there needs one
@@ -866,6 +829,28 @@ impl<'map> Session<'map> {
                 thread::yield_now();
             }
         }
+    }
+}
+
+impl Changes for Session<'_> {
+    fn looked_up(&mut self, key: u64) -> Option<u64> {
+        self.get(key)
+    }
+
+    fn entries(&mut self, from: Bound<u64>, to: Bound<u64>) -> LiveRange<'_> {
+        self.range((from, to))
+    }
+
+    fn inserted(&mut self, key: u64, pointer: u64) -> Result<Answer, Error> {
+        self.insert(key, pointer)
+    }
+
+    fn exchanged(&mut self, key: u64, expected: u64, new: u64) -> Result<Answer, Error> {
+        self.compare_exchange(key, expected, new)
+    }
+
+    fn taken(&mut self, key: u64, expected: u64) -> Result<Answer, Error> {
+        self.compare_remove(key, expected)
     }
 }
 

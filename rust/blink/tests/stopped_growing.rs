@@ -7,7 +7,7 @@ mod stepped;
 use blink::{Answer, Error, GrowingMap, GrowingSession, Index};
 use std::ffi::{c_int, c_void};
 use std::fmt::Debug;
-use std::ptr;
+use std::{mem, ptr};
 use stepped::by_instruction;
 
 const ENTRIES: [(u64, u64); 4] = [(1, 10), (2, 20), (3, 30), (4, 40)];
@@ -120,17 +120,32 @@ struct Caller {
     pointer: u64,
     answered: u32,
     refused: u32,
+    // The searches that were answered before a refused change.
+    searched: u32,
 }
 
 impl Caller {
+    // Joins the map, in which key 2 has pointer 20.
+    fn joining(map: &mut Handle) -> Caller {
+        // SAFETY: the map's handle is full.
+        let session = Handle::filled(|out| unsafe { blink_growing_join(map, out) });
+        Caller { session, pointer: 20, answered: 0, refused: 0, searched: 0 }
+    }
+
     // Each call answers as if nobody renewed the map, or changes nothing and says that somebody does.
     fn calls(&mut self) {
         let mut answer = RawAnswer { kind: 0, pointer: 0 };
         // SAFETY: the handle is full and this caller's own.
-        match unsafe { blink_growing_session_find(&mut self.session, 1, 1, &mut answer) } {
-            DONE => assert_eq!(answer.pointer, 10),
-            code => assert_eq!(code, RENEWING),
-        }
+        let found = match unsafe { blink_growing_session_find(&mut self.session, 1, 1, &mut answer) } {
+            DONE => {
+                assert_eq!(answer.pointer, 10);
+                true
+            }
+            code => {
+                assert_eq!(code, RENEWING);
+                false
+            }
+        };
         // SAFETY: as before.
         match unsafe { blink_growing_session_replace(&mut self.session, 2, self.pointer + 1, 1, &mut answer) } {
             DONE => {
@@ -141,6 +156,7 @@ impl Caller {
             code => {
                 assert_eq!(code, RENEWING);
                 self.refused += 1;
+                self.searched += u32::from(found);
             }
         }
     }
@@ -149,8 +165,8 @@ impl Caller {
 // Between so many instructions of the renewal there are two calls.
 const BETWEEN: u32 = 211;
 
-#[test]
-fn calls_beside_a_renewal_that_is_stopped_anywhere_answer_or_are_refused() {
+// Renews a map of so many sessions. The last one calls in between, and the others do nothing. Returns that one.
+fn calls_beside_a_renewal(sessions: u32) -> Caller {
     // SAFETY: handles are filled once, and freed once at the end; each is used as blink.h says, by this thread alone.
     unsafe {
         let mut index = Handle::filled(|out| blink_index_new(4, out));
@@ -158,8 +174,9 @@ fn calls_beside_a_renewal_that_is_stopped_anywhere_answer_or_are_refused() {
             let mut answer = RawAnswer { kind: 0, pointer: 0 };
             assert_eq!(blink_index_insert(&mut index, key, pointer, &mut answer), DONE);
         }
-        let mut map = Handle::filled(|out| blink_growing_open(&index, 1, out));
-        let mut caller = Caller { session: Handle::filled(|out| blink_growing_join(&mut map, out)), pointer: 20, answered: 0, refused: 0 };
+        let mut map = Handle::filled(|out| blink_growing_open(&index, sessions, out));
+        let idle: Vec<_> = (1..sessions).map(|_| Handle::filled(|out| blink_growing_join(&mut map, out))).collect();
+        let mut caller = Caller::joining(&mut map);
         let mut instructions = 0u32;
         let renewed = by_instruction(
             || blink_growing_renew(&mut map, 1),
@@ -172,19 +189,33 @@ fn calls_beside_a_renewal_that_is_stopped_anywhere_answer_or_are_refused() {
             },
         );
         assert_eq!(renewed, DONE);
-        // The renewal begins, and ends, with the session in its place; in between it has all sessions.
-        let Caller { mut session, pointer, answered, refused } = caller;
-        assert!(refused > 100, "{answered} and {refused} calls beside {instructions} instructions");
+        assert!(caller.refused > 100, "{} and {} calls beside {instructions} instructions", caller.answered, caller.refused);
         let mut answer = RawAnswer { kind: 0, pointer: 0 };
-        assert_eq!((blink_growing_session_find(&mut session, 2, 1, &mut answer), answer.pointer), (DONE, pointer));
-        blink_growing_session_free(session);
+        assert_eq!((blink_growing_session_find(&mut caller.session, 2, 1, &mut answer), answer.pointer), (DONE, caller.pointer));
+        idle.into_iter().for_each(|session| blink_growing_session_free(session));
+        blink_growing_session_free(mem::replace(&mut caller.session, Handle { at: ptr::null_mut() }));
         let closed = Handle::filled(|out| blink_growing_close(&mut map, out));
-        for (key, expected) in [(1, 10), (2, pointer), (3, 30), (4, 40)] {
+        for (key, expected) in [(1, 10), (2, caller.pointer), (3, 30), (4, 40)] {
             let mut found = 0;
             assert!(blink_index_find(&closed, key, &mut found) && found == expected);
         }
         blink_growing_free(map);
         blink_index_free(closed);
         blink_index_free(index);
+        caller
     }
+}
+
+// The renewal begins, and ends, with the session in its place; in between it has the only session for its copy.
+#[test]
+fn calls_beside_a_renewal_that_is_stopped_anywhere_answer_or_are_refused() {
+    let Caller { refused, searched, .. } = calls_beside_a_renewal(1);
+    assert!(searched <= 2, "{searched} of {refused}");
+}
+
+// The renewal copies by the first session, and the other one searches meanwhile, but where the sessions are gathered.
+#[test]
+fn searches_go_on_beside_a_renewal_that_is_stopped_anywhere() {
+    let Caller { refused, searched, .. } = calls_beside_a_renewal(2);
+    assert!(searched > refused / 10 * 9, "{searched} of {refused}");
 }
