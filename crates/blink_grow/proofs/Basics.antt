@@ -10,16 +10,16 @@ use Rattle.atomic_table.proofs.Lists.{at_set}
 use Rattle.blink_grow.specs.declared.slots.Generation.{Generation}
 use Rattle.blink_grow.specs.declared.slots.Known.{Known}
 use Rattle.blink_grow.specs.declared.slots.SlotView.{SlotView}
-use Rattle.blink_grow.specs.Rule.{Account}
+use Rattle.blink_grow.specs.Rule.{Account, word_of}
 use Rattle.blink_grow.specs.Steps.{front_of, while_some, with_known}
 
 -- ---- words
 
-pub word_here : (words : List ℕ) (slot word : ℕ) → slot < length words → slice_index (set words slot word) slot ≡ word
-word_here words slot word inside = get_or-set_same words slot word 0 inside
+pub word_here : (words : List ℕ) (slot word slots : ℕ) → length words ≡ word_of slots → slot < slots → slice_index (set words (word_of slot) word) (word_of slot) ≡ word
+word_here words slot word slots wide inside = get_or-set_same words (word_of slot) word 0 (omega (arith, wide, inside))
 
-pub word_else : (words : List ℕ) (slot word other : ℕ) → other ≢ slot → slice_index (set words slot word) other ≡ slice_index words other
-word_else words slot word other differ = get_or-set_other words slot other word 0 differ
+pub word_else : (words : List ℕ) (slot word other : ℕ) → other ≢ slot → slice_index (set words (word_of slot) word) (word_of other) ≡ slice_index words (word_of other)
+word_else words slot word other differ = get_or-set_other words (word_of slot) (word_of other) word 0 (λ e. differ (omega (arith, e)))
 
 -- ---- a function of slots with another value at one slot
 

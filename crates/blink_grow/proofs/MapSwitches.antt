@@ -14,7 +14,7 @@ use Rattle.blink_grow.specs.declared.slots.Current.{Current}
 use Rattle.blink_grow.specs.declared.slots.Generation.{Generation}
 use Rattle.blink_grow.specs.declared.slots.Known.{Known}
 use Rattle.blink_grow.specs.declared.slots.SlotView.{SlotView}
-use Rattle.blink_grow.specs.Rule.{Account, AreApart, HasAccount, HasTaken, IsGeneration, IsGrowing, IsSeatOf, RestsAt, SlotSeat, Slots, generation_of}
+use Rattle.blink_grow.specs.Rule.{Account, AreApart, HasAccount, HasTaken, IsGeneration, IsGrowing, IsSeatOf, RestsAt, SlotSeat, Slots, generation_of, word_of}
 use Rattle.blink_grow.specs.Steps.{AreAllTaken, Follows, Switched, switches}
 use Rattle.blink_grow.proofs.Basics.{each_set, no_first, not_none, there_is}
 
@@ -31,7 +31,7 @@ module _ (first : List Entry) (s : Slots) (rule : IsGrowing first s) (id : ℕ) 
   taken_here : (slot : ℕ) → slot < length s.homes → (k : ℕ) × (known : Known) × (get_elem? v.taken k ≡ some (slot, known)) × HasTaken s rule.taker rule.level rule.had id k (slot, known)
   taken_here slot inside = let one = all.each slot inside in (one.0, one.1, one.2, rule.taken id v one.0 (slot, one.1) at one.2)
 
-  rests_then : (slot : ℕ) → slot < length s.homes → slice_index s.words slot ≡ 0 → RestsAt s_switched next slot (rule.had slot)
+  rests_then : (slot : ℕ) → slot < length s.homes → slice_index s.words (word_of slot) ≡ 0 → RestsAt s_switched next slot (rule.had slot)
   rests_then slot inside is = absurd (let e : 1 ≡ 0 = sym (taken_here slot inside).3.word ∙ is in omega (arith, e))
 
   taken_then : (seat k : ℕ) (one : Account) → HasTaken s rule.taker rule.level rule.had seat k one → HasTaken s_switched rule.taker rule.level rule.had seat k one

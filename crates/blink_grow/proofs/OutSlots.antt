@@ -11,16 +11,23 @@ Out = List (ℕ × Option Current)
 pub head_rest : (slot : ℕ) (value : Option Current) (out tail : Out) → out ≡ (slot, value) ∷ tail → out ≡ (slot, value) ∷ rest out
 head_rest slot value out tail is = is ∙ ap (λ (others : Out). let all : Out = (slot, value) ∷ others in all) (sym (ap (λ (l : Out). rest l) is))
 
+abbrev value_in : Out → Option Current
+value_in [] = None
+value_in (x ∷ more) = x.1
+
 -- what the first slot holds
 pub first_slot : (slot : ℕ) (held other : Current) (value : Option Current) (xs ys : Out) → (slot, Some held) ∷ xs ≡ (slot, value) ∷ ys → value ≡ Some other → held ≡ other
 first_slot slot held other value xs ys same is =
     let values : Some held ≡ value = ap (λ (l : Out). value_in l) same in
     let both : Some held ≡ Some other = values ∙ is in
     cc
-  where
-    value_in : Out → Option Current
-    value_in [] = None
-    value_in (x ∷ more) = x.1
+
+-- it holds something
+pub first_is_full : (slot : ℕ) (held : Current) (value : Option Current) (xs ys : Out) → (slot, Some held) ∷ xs ≡ (slot, value) ∷ ys → value ≡ None → ⊥
+first_is_full slot held value xs ys same is =
+    let values : Some held ≡ value = ap (λ (l : Out). value_in l) same in
+    let both : Some held ≡ None = values ∙ is in
+    cc
 
 -- the session is out of its slot
 pub taken_out : (slot : ℕ) (held other : Current) (found : Option Current) (me at_slot after : SlotSeat) → Taken slot held (Some held) me at_slot → at_slot.1 ≡ (slot, found) ∷ rest at_slot.1 → found ≡ Some other

@@ -14,7 +14,7 @@ use Rattle.blink_grow.specs.declared.slots.Current.{Current}
 use Rattle.blink_grow.specs.declared.slots.Generation.{Generation}
 use Rattle.blink_grow.specs.declared.slots.Known.{Known}
 use Rattle.blink_grow.specs.declared.slots.SlotView.{SlotView}
-use Rattle.blink_grow.specs.Rule.{Account, AreApart, HasAccount, HasTaken, IsContinued, IsCurrentAt, IsGeneration, IsGrowing, IsSeatOf, RestsAt, SlotSeat, Slots, known_of}
+use Rattle.blink_grow.specs.Rule.{Account, AreApart, HasAccount, HasTaken, IsContinued, IsCurrentAt, IsGeneration, IsGrowing, IsSeatOf, RestsAt, SlotSeat, Slots, known_of, word_of}
 use Rattle.blink_grow.specs.Steps.{CanGive, front_of, gives_back, has_given, past_of}
 use Rattle.blink_grow.proofs.Basics.{at_else, at_front, at_here, at_with, each_set, front_stays, prefix_refl, same_slot, with_at, word_else}
 
@@ -28,7 +28,7 @@ module _ (first : List Entry) (s : Slots) (rule : IsGrowing first s) (id slot le
   v_given = has_given v slot known_then
 
   abbrev s_given : Slots
-  s_given = record { words = set s.words slot 0; homes = set s.homes slot (some (Some held)); views = set s.views id v_given }
+  s_given = record { words = set s.words (word_of slot) 0; homes = set s.homes slot (some (Some held)); views = set s.views id v_given }
 
   abbrev had_then : ℕ → Known
   had_then = with_at rule.had slot known_then
@@ -42,7 +42,7 @@ module _ (first : List Entry) (s : Slots) (rule : IsGrowing first s) (id slot le
   long_then : length s_given.homes ≡ length s.homes
   long_then = length-set s.homes slot (some (Some held))
 
-  rests_then : (other : ℕ) → other < length s_given.homes → slice_index s_given.words other ≡ 0 → RestsAt s_given rule.now other (had_then other)
+  rests_then : (other : ℕ) → other < length s_given.homes → slice_index s_given.words (word_of other) ≡ 0 → RestsAt s_given rule.now other (had_then other)
   rests_then other within is = dite (ℕ_discrete other slot)
       (λ same. subst (λ (c : ℕ). RestsAt s_given rule.now c (had_then c)) (sym same) record {
         held = held;
@@ -128,7 +128,7 @@ module _ (first : List Entry) (s : Slots) (rule : IsGrowing first s) (id slot le
     level = rule.level;
     had = had_then;
     is_generation = subst (λ (n : ℕ). IsGeneration first n rule.now) (sym long_then) rule.is_generation;
-    width = length-set s.words slot 0 ∙ (rule.width ∙ sym long_then);
+    width = length-set s.words (word_of slot) 0 ∙ (rule.width ∙ sym (ap word_of long_then));
     rests = rests_then;
     seats = each_set s.views id v_given (λ k w. 0 < w.slots → IsSeatOf first (length s_given.homes) w)
         (λ some. subst (λ (n : ℕ). IsSeatOf first n v_given) (sym long_then) (let was = rule.seats id v at some in record { same_first = was.same_first; same_slots = was.same_slots }))
@@ -144,7 +144,7 @@ module _ (first : List Entry) (s : Slots) (rule : IsGrowing first s) (id slot le
   }
 
 pub slot_is_given : (first : List Entry) (slots id slot : ℕ) (v : SlotView) (held : Current) (others : List (ℕ × Option Current)) → CanGive slot (v, (slot, None) ∷ others) held
-    → Allows (IsGrowing first) slots id (v, (slot, Some held) ∷ others) slot (λ n. 0) (λ n. gives_back (step slots slot 0 0 none) (v, (slot, Some held) ∷ others) 0)
+    → Allows (IsGrowing first) slots id (v, (slot, Some held) ∷ others) (word_of slot) (λ n. 0) (λ n. gives_back (step slots (word_of slot) 0 0 none) (v, (slot, Some held) ∷ others) 0)
 slot_is_given first slots id slot v held others can s rule homes at small = (
   has_given v slot (known_of can.now.past slot held),
   gives,

@@ -14,16 +14,16 @@ use Rattle.blink_grow.specs.declared.slots.Current.{Current}
 use Rattle.blink_grow.specs.declared.slots.Generation.{Generation}
 use Rattle.blink_grow.specs.declared.slots.Known.{Known}
 use Rattle.blink_grow.specs.declared.slots.SlotView.{SlotView}
-use Rattle.blink_grow.specs.Rule.{Account, AreApart, HasAccount, HasTaken, IsContinued, IsGeneration, IsGrowing, IsSeatOf, RestsAt, SlotSeat, Slots}
-use Rattle.blink_grow.specs.Steps.{has_taken, takes_slot}
+use Rattle.blink_grow.specs.Rule.{Account, AreApart, HasAccount, HasTaken, IsContinued, IsGeneration, IsGrowing, IsSeatOf, RestsAt, SlotSeat, Slots, word_of}
+use Rattle.blink_grow.specs.Steps.{Takes, has_taken, takes_slot}
 use Rattle.blink_grow.proofs.Basics.{at_else, at_end, at_here, each_set, some_end, with_at, word_else, word_here}
 
-module _ (first : List Entry) (s : Slots) (rule : IsGrowing first s) (id slot : ℕ) (v : SlotView) (at : get_elem? s.views id ≡ some v) (inside : slot < length s.homes) (free : slice_index s.words slot ≡ 0) where
+module _ (first : List Entry) (s : Slots) (rule : IsGrowing first s) (id slot : ℕ) (v : SlotView) (at : get_elem? s.views id ≡ some v) (inside : slot < length s.homes) (free : slice_index s.words (word_of slot) ≡ 0) where
   abbrev v_taken : SlotView
   v_taken = has_taken v rule.now (slot, rule.had slot)
 
   abbrev s_taken : Slots
-  s_taken = record { words = set s.words slot 1; homes = set s.homes slot none; views = set s.views id v_taken }
+  s_taken = record { words = set s.words (word_of slot) 1; homes = set s.homes slot none; views = set s.views id v_taken }
 
   abbrev taker_then : ℕ → ℕ
   taker_then = with_at rule.taker slot id
@@ -37,12 +37,12 @@ module _ (first : List Entry) (s : Slots) (rule : IsGrowing first s) (id slot : 
   inside_then : (other : ℕ) → other < length s.homes → other < length s_taken.homes
   inside_then other within = let long = long_then in omega (arith, long, within)
 
-  one_here : slice_index s_taken.words slot ≡ 1
-  one_here = word_here s.words slot 1 (let wide = rule.width in omega (arith, wide, inside))
+  one_here : slice_index s_taken.words (word_of slot) ≡ 1
+  one_here = word_here s.words slot 1 (length s.homes) rule.width inside
 
-  rests_then : (other : ℕ) → other < length s_taken.homes → slice_index s_taken.words other ≡ 0 → RestsAt s_taken rule.now other (rule.had other)
+  rests_then : (other : ℕ) → other < length s_taken.homes → slice_index s_taken.words (word_of other) ≡ 0 → RestsAt s_taken rule.now other (rule.had other)
   rests_then other within is = dite (ℕ_discrete other slot)
-      (λ same. absurd (let one : 1 ≡ 0 = sym one_here ∙ (ap (slice_index (set s.words slot 1)) (sym same) ∙ is) in omega (arith, one)))
+      (λ same. absurd (let one : 1 ≡ 0 = sym one_here ∙ (ap (λ (n : ℕ). slice_index (set s.words (word_of slot) 1) (word_of n)) (sym same) ∙ is) in omega (arith, one)))
       (λ differ.
       let was = rule.rests other (let long = long_then in omega (arith, long, within)) (sym (word_else s.words slot 1 other differ) ∙ is) in
       record { held = was.held; home = set_else s.homes slot other none differ ∙ was.home; its = was.its; is = was.is })
@@ -53,7 +53,7 @@ module _ (first : List Entry) (s : Slots) (rule : IsGrowing first s) (id slot : 
   other_taken : (seat k : ℕ) (one : Account) → HasTaken s rule.taker rule.level rule.had seat k one → HasTaken s_taken taker_then level_then rule.had seat k one
   other_taken seat k one has =
       let word_is = has.word in
-      let differ : one.0 ≢ slot = λ (same : one.0 ≡ slot). let e : 1 ≡ 0 = sym word_is ∙ (ap (slice_index s.words) same ∙ free) in omega (arith, e) in
+      let differ : one.0 ≢ slot = λ (same : one.0 ≡ slot). let e : 1 ≡ 0 = sym word_is ∙ (ap (λ (n : ℕ). slice_index s.words (word_of n)) same ∙ free) in omega (arith, e) in
       record {
         in_range = inside_then one.0 has.in_range;
         word = word_else s.words slot 1 one.0 differ ∙ has.word;
@@ -89,7 +89,7 @@ module _ (first : List Entry) (s : Slots) (rule : IsGrowing first s) (id slot : 
     level = level_then;
     had = rule.had;
     is_generation = subst (λ (n : ℕ). IsGeneration first n rule.now) (sym long_then) rule.is_generation;
-    width = length-set s.words slot 1 ∙ (rule.width ∙ sym long_then);
+    width = length-set s.words (word_of slot) 1 ∙ (rule.width ∙ sym (ap word_of long_then));
     rests = rests_then;
     seats = each_set s.views id v_taken (λ k w. 0 < w.slots → IsSeatOf first (length s_taken.homes) w)
         (λ some. subst (λ (n : ℕ). IsSeatOf first n v_taken) (sym long_then) (let was = rule.seats id v at some in record { same_first = was.same_first; same_slots = was.same_slots }))
@@ -104,10 +104,11 @@ module _ (first : List Entry) (s : Slots) (rule : IsGrowing first s) (id slot : 
   }
 
 pub slot_is_taken : (first : List Entry) (slots id slot : ℕ) (me : SlotSeat) → 0 < me.0.slots → slot < slots
-    → Allows (IsGrowing first) slots id me slot (λ n. either (eqb n 0) 1 n) (takes_slot (step slots slot 0 1 none) me)
+    → Allows (IsGrowing first) slots id me (word_of slot) (λ n. either (eqb n 0) 1 n) (takes_slot (step slots (word_of slot) 0 1 none) me)
 slot_is_taken first slots id slot me some_slot inside s rule homes at small =
-    let found : ℕ = slice_index s.words slot in
-    exchanged found 0 1 (λ (k : ℕ). (w : SlotView) × (a : Act (Option Current)) × Valid s.homes me.1 a × IsGrowing first (stepped s slot k id me.1 w a) × takes_slot (step slots slot 0 1 none) me found (w, carried_after me.1 a))
+    let found : ℕ = slice_index s.words (word_of slot) in
+    let only : (after : SlotSeat) → Takes slot me found after → takes_slot (step slots (word_of slot) 0 1 none) me found after = λ after tells other same. subst (λ (n : ℕ). Takes n me found after) (omega (arith, same)) tells in
+    exchanged found 0 1 (λ (k : ℕ). (w : SlotView) × (a : Act (Option Current)) × Valid s.homes me.1 a × IsGrowing first (stepped s (word_of slot) k id me.1 w a) × takes_slot (step slots (word_of slot) 0 1 none) me found (w, carried_after me.1 a))
     (λ free.
     let within : slot < length s.homes = omega (arith, homes, inside) in
     let rests = rule.rests slot within free in
@@ -116,7 +117,7 @@ slot_is_taken first slots id slot me some_slot inside s rule homes at small =
       takes slot (Some rests.held),
       rests.home,
       is_taken first s rule id slot me.0 at within free,
-      record {
+      only (has_taken me.0 rule.now (slot, rule.had slot), (slot, Some rests.held) ∷ me.1) record {
         got = λ none_found. (
           rests.held,
           record {
@@ -135,6 +136,6 @@ slot_is_taken first slots id slot me some_slot inside s rule homes at small =
       me.0,
       keeps,
       tt,
-      subst (λ (t : List ℕ × List SlotView). IsGrowing first record { words = t.0; homes = s.homes; views = t.1 }) (λ i. (sym (set-get_or s.words slot 0) i, sym (set_again s.views id me.0 at) i)) rule,
-      record { got = λ none_found. absurd (other none_found); lost = λ differ. refl },
+      subst (λ (t : List ℕ × List SlotView). IsGrowing first record { words = t.0; homes = s.homes; views = t.1 }) (λ i. (sym (set-get_or s.words (word_of slot) 0) i, sym (set_again s.views id me.0 at) i)) rule,
+      only (me.0, me.1) record { got = λ none_found. absurd (other none_found); lost = λ differ. refl },
     ))

@@ -12,7 +12,7 @@ use Rattle.blink_map.specs.{opening_of, places_of}
 use Rattle.blink_grow.specs.declared.slots.Current.{Current}
 use Rattle.blink_grow.specs.declared.slots.SlotView.{SlotView}
 use Rattle.blink_grow.specs.Laid.{AreLaid}
-use Rattle.blink_grow.specs.Rule.{Account, AreApart, HasAccount, HasTaken, IsGrowing, IsSeatOf, RestsAt, Slots, fresh_accounts, generation_of, nothing, opener}
+use Rattle.blink_grow.specs.Rule.{Account, AreApart, HasAccount, HasTaken, IsGrowing, IsSeatOf, RestsAt, Slots, fresh_accounts, generation_of, nothing, opener, word_of}
 
 abbrev pub free_words : ℕ → List ℕ
 free_words n = replicate n 0
@@ -37,13 +37,13 @@ at_fresh start (suc count) (suc k) account e =
 
 module _ (first : List Entry) (its_map : Map) (slots : List (Option Current)) (same : opening_of its_map ≡ first) (width : places_of its_map ≡ length slots) (laid : AreLaid its_map slots) where
   abbrev s_opened : Slots
-  s_opened = opening (replicate (length slots) 0) slots (opener first (length slots))
+  s_opened = opening (free_words (word_of (length slots))) slots (opener first (length slots))
 
   only_opener : (P : ℕ → SlotView → Type 0) → P 0 (opener first (length slots)) → (seat : ℕ) (w : SlotView) → get_elem? s_opened.views seat ≡ some w → P seat w
   only_opener P one zero w there = subst (P 0) (some-injective (opener first (length slots)) w there) one
   only_opener P one (suc seat) w there = absurd (some-ne-none w (sym there))
 
-  opened_rests : (slot : ℕ) → slot < length s_opened.homes → slice_index s_opened.words slot ≡ 0 → RestsAt s_opened (generation_of its_map []) slot nothing
+  opened_rests : (slot : ℕ) → slot < length s_opened.homes → slice_index s_opened.words (word_of slot) ≡ 0 → RestsAt s_opened (generation_of its_map []) slot nothing
   opened_rests slot within is =
       let long = long_some slots in
       let one = laid slot (omega (arith, long, within)) in
@@ -86,7 +86,7 @@ module _ (first : List Entry) (its_map : Map) (slots : List (Option Current)) (s
       authors = no_change (length s_opened.homes);
       places = width ∙ sym (long_some slots);
     };
-    width = long_zeros (length slots) ∙ sym (long_some slots);
+    width = long_zeros (word_of (length slots)) ∙ ap word_of (sym (long_some slots));
     rests = opened_rests;
     seats = only_opener (λ k w. 0 < w.slots → IsSeatOf first (length s_opened.homes) w) (λ some. record { same_first = refl; same_slots = sym (long_some slots) });
     accounts = λ seat w k account there. only_opener (λ j x. get_elem? x.accounts k ≡ some account → HasAccount s_opened (λ slot. 0) (λ slot. nothing) j account) (opened_account k account) seat w there;

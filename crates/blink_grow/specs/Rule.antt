@@ -1,5 +1,5 @@
 -- The rule of the slots: in each free slot lies a session of the current map, which goes on from what all maps before it left.
-use Rattle.std.specs.Prelude.{◌≡◌, ◌≢◌, ℕ, zero, suc, ◌<◌, ◌^◌, Option, Some, None, List, [], ◌∷◌, ◌++◌, length, slice_index}
+use Rattle.std.specs.Prelude.{◌≡◌, ◌≢◌, ℕ, zero, suc, ◌*◌, ◌<◌, ◌^◌, Option, Some, None, List, [], ◌∷◌, ◌++◌, length, slice_index}
 use mathlib.Core.Option.{some}
 use mathlib.Core.List.{IsPrefix}
 use lib.ListN.{get_elem?}
@@ -24,6 +24,10 @@ SlotSeat = Me (Option Current) SlotView
 
 abbrev pub Account : Type 0
 Account = ℕ × Known
+
+-- the word of a slot. Eight words are a line of a processor's cache: so each slot has one of its own, and uses the first word of it
+abbrev pub word_of : ℕ → ℕ
+word_of slot = 8 * slot
 
 -- ---- maps, one after another
 
@@ -87,7 +91,7 @@ pub record HasAccount (s : Slots) (owner : ℕ → ℕ) (had : ℕ → Known) (s
 -- the seat has taken the slot, whose session knew this
 pub record HasTaken (s : Slots) (taker level : ℕ → ℕ) (had : ℕ → Known) (seat k : ℕ) (one : Account) : Type 0 where
   pub in_range : one.0 < length s.homes
-  pub word : slice_index s.words one.0 ≡ 1
+  pub word : slice_index s.words (word_of one.0) ≡ 1
   pub own : taker one.0 ≡ seat
   pub at_level : level one.0 ≡ k
   pub same : had one.0 ≡ one.1
@@ -105,8 +109,8 @@ pub record IsGrowing (first : List Entry) (s : Slots) : Type 0 where
   -- what the session of each slot knew when it was there last
   pub had : ℕ → Known
   pub is_generation : IsGeneration first (length s.homes) now
-  pub width : length s.words ≡ length s.homes
-  pub rests : (slot : ℕ) → slot < length s.homes → slice_index s.words slot ≡ 0 → RestsAt s now slot (had slot)
+  pub width : length s.words ≡ word_of (length s.homes)
+  pub rests : (slot : ℕ) → slot < length s.homes → slice_index s.words (word_of slot) ≡ 0 → RestsAt s now slot (had slot)
   pub seats : (seat : ℕ) (v : SlotView) → get_elem? s.views seat ≡ some v → 0 < v.slots → IsSeatOf first (length s.homes) v
   pub accounts : (seat : ℕ) (v : SlotView) (k : ℕ) (account : Account) → get_elem? s.views seat ≡ some v → get_elem? v.accounts k ≡ some account → HasAccount s owner had seat account
   pub apart : (seat : ℕ) (v : SlotView) → get_elem? s.views seat ≡ some v → AreApart v.accounts

@@ -12,7 +12,7 @@ use Rattle.blink_grow.specs.declared.slots.Current.{Current}
 use Rattle.blink_grow.specs.declared.slots.Generation.{Generation}
 use Rattle.blink_grow.specs.declared.slots.Known.{Known}
 use Rattle.blink_grow.specs.declared.slots.SlotView.{SlotView}
-use Rattle.blink_grow.specs.Rule.{Account, AreApart, IsContinued, IsCurrentAt, IsGeneration, SlotSeat, generation_of, known_of}
+use Rattle.blink_grow.specs.Rule.{Account, AreApart, IsContinued, IsCurrentAt, IsGeneration, SlotSeat, generation_of, known_of, word_of}
 
 -- ---- a seat comes, with no session
 
@@ -42,7 +42,7 @@ pub record Takes (slot : ℕ) (me : SlotSeat) (found : ℕ) (after : SlotSeat) :
   pub lost : found ≢ 0 → after ≡ me
 
 abbrev pub takes_slot : Step (Option Current) → SlotSeat → ℕ → SlotSeat → Type 0
-takes_slot st = Takes st.word
+takes_slot st me found after = (slot : ℕ) → st.word ≡ word_of slot → Takes slot me found after
 
 -- ---- a seat gives back the slot that it took last
 

@@ -8,7 +8,7 @@ ghost use Rattle.blink_grow.specs.Sessions.{opening_of, places_of};
 ghost use Rattle.blink_grow.specs.Steps.{AreAllTaken, CanGive, Follows, Switched, Taken, has_given, past_of};
 
 use crate::growing::GrowingMap;
-use crate::slots::{Current, Enter, Give, SlotView, Switch, Take};
+use crate::slots::{Current, Enter, Give, SLOT_WORDS, SlotView, Switch, Take};
 use atomic_table::Seat;
 use std::sync::Wait;
 use std::sync::atomic::Ordering;
@@ -49,7 +49,7 @@ impl GrowingMap {
         if self
             .table
             .shared
-            .compare_exchange::<Take>(seat, slot, FREE, TAKEN)
+            .compare_exchange::<Take>(seat, SLOT_WORDS * slot, FREE, TAKEN)
             != FREE
         {
             return None;
@@ -152,7 +152,9 @@ impl GrowingMap {
             Some(_) => unreachable!(),
             None => {}
         }
-        self.table.shared.store::<Give>(seat, slot, FREE);
+        self.table
+            .shared
+            .store::<Give>(seat, SLOT_WORDS * slot, FREE);
     }
 
     // Another map becomes the current one, of which this is a session.

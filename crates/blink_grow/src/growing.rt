@@ -2,6 +2,7 @@
 ghost use Rattle.std.specs.Prelude.{◌≡◌, ◌<◌, ◌≤◌};
 ghost use Rattle.blink_page.specs.{IsFan};
 ghost use Rattle.blink_grow.specs.Own.{IsIdle, KnowsAuthors};
+ghost use Rattle.blink_grow.specs.Rule.{word_of};
 
 use crate::error::GrowError;
 use crate::slots::{Current, Origin, RuleOfSlots, SlotView};
@@ -24,7 +25,7 @@ pub struct GrowingMap {
     pub(crate) removed: AtomicU64,
     // How many page numbers the current map has in all. No proof needs it.
     pub(crate) numbers: AtomicU64,
-    ghost words: { table.shared.table_id.words ≡ table.shared.table_id.slots },
+    ghost words: { table.shared.table_id.words ≡ word_of table.shared.table_id.slots },
     ghost some_slot: { 0 < table.shared.table_id.slots },
     ghost few_slots: { table.shared.table_id.slots ≤ 256 },
     ghost all_slots: { table.shared.key.slots ≡ table.shared.table_id.slots },

@@ -10,7 +10,7 @@ ghost use Rattle.blink_grow.specs.Sessions.{IsSessionOf, opening_of, places_of};
 use crate::error::GrowError;
 use crate::growing::{GrowingMap, Session};
 use crate::room::{numbers_over, room_over};
-use crate::slots::{Current, Origin, PartWithFirst, RuleOfSlots, SlotView};
+use crate::slots::{Current, Origin, PartWithFirst, RuleOfSlots, SLOT_WORDS, SlotView};
 use crate::worn::had_at_first;
 use atomic_table::{Seat, Table};
 use blink_index::Index;
@@ -114,14 +114,15 @@ fn table_of(
     ensures first { IfOk result
         (λ opened. opened.1.me ≡ (dealer (opening_of opened.0) (places_of opened.0) 0, [])) }
 {
-    let Ok(words) = zeros(alloc, slots.len()) else {
+    let count = slots.len();
+    let Ok(words) = zeros(alloc, SLOT_WORDS * count) else {
         return Err(GrowError::OutOfMemory);
     };
     let origin = Origin {
         index: Snapshot::of(index),
-        slots: slots.len() as u64,
+        slots: count as u64,
     };
-    let numbers = numbers_over(index.page_count(), slots.len() as u32);
+    let numbers = numbers_over(index.page_count(), count as u32);
     match Table::<Option<Current>, SlotView, Origin, RuleOfSlots, Global>::new(
         alloc, &words, slots, &origin,
     ) {
@@ -130,7 +131,7 @@ fn table_of(
                 table,
                 fan: index.rest().store().fan(),
                 renewing: AtomicBool::new(false),
-                had: AtomicU64::new(had_at_first(index.len(), words.len())),
+                had: AtomicU64::new(had_at_first(index.len(), count)),
                 removed: AtomicU64::new(0),
                 numbers: AtomicU64::new(numbers),
             },

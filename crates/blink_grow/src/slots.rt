@@ -1,5 +1,6 @@
 //! The slots: a table with a word and a slot for each session. A session's session of the current map lies in its slot while no call
-//! has it. The word is 0 then, and 1 while a call has it, or a renewal.
+//! has it. The word is 0 then, and 1 while a call has it, or a renewal. Each call writes to its word twice, so each word has a line of the
+//! processor's cache for itself: otherwise calls of different threads would wait for one line.
 use atomic_table::{Join, Play, Split, TableRule};
 use blink_batch::Entry;
 use blink_index::Index;
@@ -8,6 +9,9 @@ use blink_map::{Map, Session};
 use std::collections::LinkedList;
 use std::snapshot::Snapshot;
 use std::sync::Arc;
+
+/// The number of words in the line of a slot, as many as in a line of the processor's cache. The first is the slot's word.
+pub(crate) const SLOT_WORDS: usize = 8;
 
 /// A session of a map, with an owner of the map, and the map's number: how often there was a renewal before.
 #[derive(Drop)]

@@ -4,7 +4,7 @@ use Rattle.atomic_table.specs.Seated.{TableId}
 use Rattle.atomic_table.specs.Table.{step, rest, Allows}
 use Rattle.blink_index.specs.{map_of}
 use Rattle.blink_grow.specs.declared.slots.Current.{Current}
-use Rattle.blink_grow.specs.Rule.{IsGrowing, SlotSeat}
+use Rattle.blink_grow.specs.Rule.{IsGrowing, SlotSeat, word_of}
 use Rattle.blink_grow.specs.Steps.{CanGive, gives_back}
 use Rattle.blink_grow.proofs.SlotIsGiven.{slot_is_given}
 use Rattle.blink_grow.proofs.growing.GrowingMap.give.Goals as goal
@@ -23,6 +23,6 @@ store-requires c =
     let can = subst (λ (l : List (ℕ × Option Current)). CanGive slot (me.0, l) c.args.held) c.requires.can.out c.requires.can in (
       c.exchange.ensures.0 ∙ c.requires.its_own,
       omega (arith, words, inside, same),
-      subst (λ (x : SlotSeat). Allows (IsGrowing first) slots c.exchange.new.seat.id x slot (λ n. 0) (λ n. gives_back (step slots slot 0 0 none) x 0)) (sym c.exchange.ensures.3)
+      subst (λ (x : SlotSeat). Allows (IsGrowing first) slots c.exchange.new.seat.id x (word_of slot) (λ n. 0) (λ n. gives_back (step slots (word_of slot) 0 0 none) x 0)) (sym c.exchange.ensures.3)
           (slot_is_given first slots c.exchange.new.seat.id slot me.0 c.args.held others can),
     )
