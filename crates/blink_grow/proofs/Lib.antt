@@ -6,6 +6,7 @@ pub mod MapSwitches
 pub mod SeatsChange
 pub mod SlotsOpen
 pub mod CallsOfSessions
+pub mod InPlace
 pub mod HeldSessions
 pub mod HoldsForACall
 pub mod Opens

@@ -24,6 +24,7 @@ pub mod Rule
 pub mod Steps
 pub mod Laid
 pub mod Own
+pub mod Taking
 pub mod Held
 pub mod Sessions
 pub mod Holding

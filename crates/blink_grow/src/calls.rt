@@ -1,11 +1,12 @@
 //! How seats take slots and give them back.
-ghost use Rattle.std.specs.Prelude.{◌≡◌, ◌<◌, List, [], Some, None, IfSome, IfNone};
+ghost use Rattle.std.specs.Prelude.{◌≡◌, ◌<◌, List, [], Some, None, IfSome, IfNone, IsTrue, IsFalse};
 ghost use Rattle.std.specs.Arc.{arc_value};
 ghost use Rattle.atomic_table.specs.Table.{rest};
 ghost use Rattle.blink_live.specs.declared.view.Change.{Change};
-ghost use Rattle.blink_grow.specs.Rule.{generation_of, known_of};
+ghost use Rattle.blink_grow.specs.Rule.{SlotSeat, generation_of, known_of};
 ghost use Rattle.blink_grow.specs.Sessions.{opening_of, places_of};
-ghost use Rattle.blink_grow.specs.Steps.{AreAllTaken, CanGive, Follows, Switched, Taken, has_given, past_of};
+ghost use Rattle.blink_grow.specs.Steps.{AreAllTaken, CanGive, Follows, Switched, Taken, given, has_given, past_of};
+ghost use Rattle.blink_grow.specs.Taking.{CanGiveBack, HasTakenSlot};
 
 use crate::growing::GrowingMap;
 use crate::slots::{Current, Enter, Give, SLOT_WORDS, SlotView, Switch, Take};
@@ -33,6 +34,91 @@ impl GrowingMap {
         seat
     }
 
+    // Takes a slot, if its session lies there, and leaves the session in it. Returns whether it has taken it.
+    pub(crate) fn try_take_slot(
+        &self,
+        seat: &mut Seat<Option<Current>, SlotView>,
+        slot: usize,
+    ) -> bool
+        requires its_own { seat.old.table_id ≡ self.now.table.shared.table_id }
+        requires in_range { slot < seat.old.table_id.slots }
+        requires some_slot { 0 < seat.old.me.0.slots }
+        ensures same { seat.new.table_id ≡ seat.old.table_id }
+        ensures taken { IsTrue result → HasTakenSlot slot seat.old.me seat.new.me }
+        ensures lost { IsFalse result → seat.new.me ≡ seat.old.me }
+    {
+        let found = self
+            .table
+            .shared
+            .compare_exchange::<Take>(seat, SLOT_WORDS * slot, FREE, TAKEN);
+        found == FREE
+    }
+
+    // Takes a slot, waits for it, and leaves the session in it. It lets a renewal go first, which wants the session too.
+    pub(crate) fn take_slot<R: Wait>(
+        &self,
+        rt: &R,
+        seat: &mut Seat<Option<Current>, SlotView>,
+        slot: usize,
+    )
+        requires its_own { seat.old.table_id ≡ self.now.table.shared.table_id }
+        requires in_range { slot < seat.old.table_id.slots }
+        requires some_slot { 0 < seat.old.me.0.slots }
+        ensures same { seat.new.table_id ≡ seat.old.table_id }
+        ensures taken { HasTakenSlot slot seat.old.me seat.new.me }
+    {
+        self.wait_for_renewal(rt);
+        for _ in rt.forever() {
+            if self.try_take_slot(seat, slot) {
+                return;
+            }
+            thread::yield_now();
+        }
+        unreachable!()
+    }
+
+    // Takes a slot, and leaves the session in it. It looks `tries` times, at least once, and lets a renewal that has begun go first.
+    // Returns whether it has taken the slot.
+    pub(crate) fn take_slot_unless_renewed(
+        &self,
+        seat: &mut Seat<Option<Current>, SlotView>,
+        slot: usize,
+        tries: u32,
+    ) -> bool
+        requires its_own { seat.old.table_id ≡ self.now.table.shared.table_id }
+        requires in_range { slot < seat.old.table_id.slots }
+        requires some_slot { 0 < seat.old.me.0.slots }
+        ensures same { seat.new.table_id ≡ seat.old.table_id }
+        ensures taken { IsTrue result → HasTakenSlot slot seat.old.me seat.new.me }
+        ensures lost { IsFalse result → seat.new.me ≡ seat.old.me }
+    {
+        for _ in 0..tries.max(1) {
+            if !self.renewing.load(Ordering::SeqCst) && self.try_take_slot(seat, slot) {
+                return true;
+            }
+            hint::spin_loop();
+        }
+        false
+    }
+
+    // Takes the session out of a slot that the seat has taken.
+    pub(crate) fn take_out(
+        &self,
+        seat: &mut Seat<Option<Current>, SlotView>,
+        slot: usize,
+    ) -> Current
+        requires its_own { seat.old.table_id ≡ self.now.table.shared.table_id }
+        requires taken { (me : SlotSeat) × HasTakenSlot slot me seat.old.me }
+        ensures same { seat.new.table_id ≡ seat.old.table_id }
+        ensures taken { (me : SlotSeat) → HasTakenSlot slot me seat.old.me
+            → Taken slot result None me seat.new.me }
+    {
+        match self.table.shared.exchange(seat, slot, None) {
+            Some(held) => held,
+            None => unreachable!(),
+        }
+    }
+
     // Takes the session out of a slot, if it lies there.
     pub(crate) fn try_take(
         &self,
@@ -46,17 +132,10 @@ impl GrowingMap {
         ensures taken { IfSome result (λ held. Taken slot held None seat.old.me seat.new.me) }
         ensures lost { IfNone result (seat.new.me ≡ seat.old.me) }
     {
-        if self
-            .table
-            .shared
-            .compare_exchange::<Take>(seat, SLOT_WORDS * slot, FREE, TAKEN)
-            != FREE
-        {
-            return None;
-        }
-        match self.table.shared.exchange(seat, slot, None) {
-            Some(held) => Some(held),
-            None => unreachable!(),
+        if self.try_take_slot(seat, slot) {
+            Some(self.take_out(seat, slot))
+        } else {
+            None
         }
     }
 
@@ -152,6 +231,17 @@ impl GrowingMap {
             Some(_) => unreachable!(),
             None => {}
         }
+        self.give_back(seat, slot);
+    }
+
+    // Gives back the slot that the seat took last, with the session that lies in it.
+    pub(crate) fn give_back(&self, seat: &mut Seat<Option<Current>, SlotView>, slot: usize)
+        requires its_own { seat.old.table_id ≡ self.now.table.shared.table_id }
+        requires in_range { slot < seat.old.table_id.slots }
+        requires can { CanGiveBack slot seat.old.me }
+        ensures same { seat.new.table_id ≡ seat.old.table_id }
+        ensures back { seat.new.me ≡ (given seat.old.me.0 seat.old.me.1, rest seat.old.me.1) }
+    {
         self.table
             .shared
             .store::<Give>(seat, SLOT_WORDS * slot, FREE);

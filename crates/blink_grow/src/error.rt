@@ -13,7 +13,8 @@ pub enum GrowError {
     /// A map has 1 to 256 sessions.
     #[error("1 to 256 sessions")]
     Sessions,
-    /// The map can't be renewed for now, since a session is held up in the midst of a call.
+    /// The map can't be renewed for now, since a session is held up in the midst of a call; or a call that waits for nobody found that
+    /// the map was being renewed.
     #[error("a session is held up in a call")]
     Busy,
 }

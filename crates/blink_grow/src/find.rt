@@ -17,9 +17,7 @@ impl GrowingMap {
         ensures same { IsSameBesideSeen session.old session.new }
     {
         let Session { seat, slot } = session;
-        let mut held = self.take(rt, seat, *slot);
-        let found = held.map.find(&mut held.session, key);
-        self.give(seat, *slot, held);
-        found
+        self.take_slot(rt, seat, *slot);
+        self.find_in_place(seat, *slot, key)
     }
 }

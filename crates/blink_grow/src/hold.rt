@@ -5,9 +5,7 @@ ghost use Rattle.blink_grow.specs.Sessions.{IsSameSession, IsSessionOf};
 
 use crate::growing::{GrowingMap, Session};
 use crate::held::Held;
-use std::hint;
 use std::sync::Wait;
-use std::sync::atomic::Ordering;
 
 impl GrowingMap {
     /// Holds a session, so that calls on it wait for nobody until it is released. It holds back a renewal and a close meanwhile, and
@@ -37,19 +35,15 @@ impl GrowingMap {
         ensures same { IfErr result (IsSameSession session) }
     {
         let Session { mut seat, slot } = session;
-        for _ in 0..tries.max(1) {
-            if !self.renewing.load(Ordering::SeqCst) {
-                if let Some(current) = self.try_take(&mut seat, slot) {
-                    return Ok(Held {
-                        seat,
-                        slot,
-                        current,
-                    });
-                }
-            }
-            hint::spin_loop();
+        if !self.take_slot_unless_renewed(&mut seat, slot, tries) {
+            return Err(Session { seat, slot });
         }
-        Err(Session { seat, slot })
+        let current = self.take_out(&mut seat, slot);
+        Ok(Held {
+            seat,
+            slot,
+            current,
+        })
     }
 
     /// Releases a held session. It knows all that it had seen and made while it was held. The call takes no memory, waits for nobody, and

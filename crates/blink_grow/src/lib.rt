@@ -15,6 +15,7 @@ mod gather;
 mod growing;
 mod held;
 mod hold;
+mod in_place;
 mod look;
 mod next;
 mod open;
@@ -30,6 +31,7 @@ mod start;
 mod tell;
 #[cfg(test)]
 mod tests;
+mod try_reads;
 mod waiting;
 mod worn;
 

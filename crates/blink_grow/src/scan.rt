@@ -29,9 +29,7 @@ impl GrowingMap {
         ensures same { IsSameBesideSeen session.old session.new }
     {
         let Session { seat, slot } = session;
-        let mut held = self.take(rt, seat, *slot);
-        let scanned = held.map.scan(&mut held.session, lo, hi, into);
-        self.give(seat, *slot, held);
-        scanned
+        self.take_slot(rt, seat, *slot);
+        self.scan_in_place(seat, *slot, lo, hi, into)
     }
 }

@@ -31,9 +31,7 @@ impl GrowingMap {
         ensures same { IsSameBesideSeen session.old session.new }
     {
         let Session { seat, slot } = session;
-        let mut held = self.take(rt, seat, *slot);
-        let found = held.map.snapshot(alloc, &mut held.session, lo, hi, tries);
-        self.give(seat, *slot, held);
-        found
+        self.take_slot(rt, seat, *slot);
+        self.snapshot_in_place(alloc, seat, *slot, lo, hi, tries)
     }
 }

@@ -3,11 +3,20 @@ ghost use Rattle.blink_grow.specs.Sessions.{IsSessionOf};
 
 use crate::error::GrowError;
 use crate::growing::{GrowingMap, Session};
-use blink_batch::{Answer, Op};
+use blink_batch::{Answer, Entry, Op};
+use blink_live::Scanned;
 use std::alloc::Global;
 use std::process::Abort;
 use std::sync::Wait;
 use std::sync::atomic::Ordering;
+
+const SEVEN: Entry = Entry {
+    key: 7,
+    pointer: 70,
+};
+
+// What a place has before a scan.
+const NONE: Entry = Entry { key: 0, pointer: 0 };
 
 // A map in which key 7 has pointer 70, and its two sessions.
 fn two<R: Wait + Abort>(rt: &R, alloc: Global) -> (GrowingMap, Session, Session)
@@ -51,6 +60,42 @@ fn no_session_is_held_and_no_other_renewal_begins_while_the_map_is_renewed(rt: H
     map.renewing.store(false, Ordering::SeqCst);
     let mut held = map.try_hold(one, 1).ok().expect(&rt, "not held");
     assert_eq!(&rt; map.find_held(&mut held, 7), Some(70));
+}
+
+// A renewal lasts as long as a test says. Reads that wait for nobody change no place meanwhile.
+#[test]
+fn reads_that_wait_for_nobody_refuse_only_while_the_map_is_renewed(rt: HostRuntime) {
+    let alloc = rt.alloc();
+    let (map, mut one, _other) = two(&rt, alloc);
+    let range = (0, u64::MAX);
+    let mut places = [NONE; 2];
+    map.renewing.store(true, Ordering::SeqCst);
+    assert_eq!(&rt; map.try_find(&mut one, 7, 2), Err(GrowError::Busy));
+    assert_eq!(&rt;
+        map.try_scan(&mut one, range, 2, &mut places),
+        Err(GrowError::Busy)
+    );
+    assert_eq!(&rt;
+        map.try_scan_back(&mut one, range, 2, &mut places),
+        Err(GrowError::Busy)
+    );
+    let refusal = map.try_snapshot(alloc, &mut one, range, 2).err();
+    assert_eq!(&rt; refusal, Some(GrowError::Busy));
+    assert_eq!(&rt; places, [NONE; 2]);
+    map.renewing.store(false, Ordering::SeqCst);
+    assert_eq!(&rt; map.try_find(&mut one, 7, 0), Ok(Some(70)));
+    let all = Scanned {
+        filled: 1,
+        next: None,
+    };
+    assert_eq!(&rt; map.try_scan(&mut one, range, 0, &mut places), Ok(all));
+    assert_eq!(&rt; places, [SEVEN, NONE]);
+    places = [NONE; 2];
+    assert_eq!(&rt; map.try_scan_back(&mut one, range, 0, &mut places), Ok(all));
+    assert_eq!(&rt; places, [SEVEN, NONE]);
+    let found = map.try_snapshot(alloc, &mut one, range, 1);
+    let entries = found.ok().expect(&rt, "refused").expect(&rt, "changed");
+    assert_eq!(&rt; entries.as_slice(), [SEVEN].as_slice());
 }
 
 #[test]

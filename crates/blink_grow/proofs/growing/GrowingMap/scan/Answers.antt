@@ -1,49 +1,44 @@
 use Rattle.std.proofs.Common.{◌<◌, refl, sym, ap, ◌∙◌, subst}
-use Rattle.std.specs.Prelude.{length, take}
-use Rattle.atomic_table.specs.Seated.{TableId}
+use Rattle.std.specs.Prelude.{take}
 use Rattle.blink_live.specs.{IsReport, stop_of}
-use Rattle.blink_map.specs.declared.map.Map.{Map}
-use Rattle.blink_map.specs.{opening_of, seen_by}
-use Rattle.blink_grow.proofs.CallsOfSessions.{authors_again, can_give, first_again, fits_below, idle_again, made_same, report_all, saw_more, slots_again}
+use Rattle.blink_grow.specs.declared.slots.Known.{Known}
+use Rattle.blink_grow.specs.Own.{own_of}
+use Rattle.blink_grow.specs.Sessions.{opening_of}
+use Rattle.atomic_table.specs.Seated.{TableId}
+use Rattle.blink_grow.proofs.InPlace.{as_before, first_at_slot, has_own, knows_at_slot, same_beside_seen}
 use Rattle.blink_grow.proofs.growing.GrowingMap.scan.Goals as goal
 
-pub give-requires-clause-can : goal.give-requires-clause-can
-give-requires-clause-can g c =
+pub scan_in_place-requires-clause-same_first : goal.scan_in_place-requires-clause-same_first
+scan_in_place-requires-clause-same_first g c =
     let old = c.args.session.now in
-    let same = c.scan-scanned.ensures.same in
-    can_give old.slot old.seat.me c.take-held.new.seat.me c.take-held.result old.idle c.take-held.ensures.taken c.scan-scanned.new.session same.same_member same.saw
+    first_at_slot old.slot old.seat.me c.take_slot.new.seat.me old.idle c.take_slot.ensures.taken ∙ c.requires.its_own.same_first
+
+pub scan_in_place-requires-clause-taken : goal.scan_in_place-requires-clause-taken
+scan_in_place-requires-clause-taken g c =
+    let old = c.args.session.now in
+    has_own old.slot old.seat.me c.take_slot.new.seat.me old.idle c.take_slot.ensures.taken
 
 pub invariant_of-session : goal.invariant_of-session
 invariant_of-session g c =
     let old = c.args.session.now in
-    let same = c.scan-scanned.ensures.same.same_member in
-    let table = c.give.ensures.same ∙ c.take-held.ensures.same in
+    let again = as_before old.slot old.seat.me c.take_slot.new.seat.me old.idle c.take_slot.ensures.taken c.scan_in_place.new.seat.me c.scan_in_place.ensures.idle in
+    let table = c.scan_in_place.ensures.same ∙ c.take_slot.ensures.same in
     record {
-      idle = idle_again old.slot old.seat.me c.take-held.new.seat.me c.take-held.result old.idle c.take-held.ensures.taken c.scan-scanned.new.session same c.give.new.seat.me c.give.ensures.given;
+      idle = again.idle;
       in_range = subst (λ (t : TableId). old.slot < t.slots) (sym table) old.in_range;
-      all_slots = slots_again old.slot old.seat.me c.take-held.new.seat.me c.take-held.result old.idle c.take-held.ensures.taken c.scan-scanned.new.session same c.give.new.seat.me c.give.ensures.given ∙ (old.all_slots ∙ ap (λ (t : TableId). t.slots) (sym table));
-      authors = authors_again old.slot old.seat.me c.take-held.new.seat.me c.take-held.result old.idle c.take-held.ensures.taken c.scan-scanned.new.session same c.give.new.seat.me c.give.ensures.given;
+      all_slots = again.same_slots ∙ (old.all_slots ∙ ap (λ (t : TableId). t.slots) (sym table));
+      authors = again.authors;
     }
 
 pub returns-clause-report : goal.returns-clause-report
 returns-clause-report g c =
     let old = c.args.session.now in
-    let scanned = c.scan-scanned.result in
-    let entries = take scanned.filled c.scan-scanned.new.into in
-    let told = subst (λ (m : Map). IsReport (opening_of m) (seen_by c.take-held.result.session) (seen_by c.scan-scanned.new.session) c.args.lo (stop_of c.args.hi scanned.next) entries) c.deref.ensures c.scan-scanned.ensures.report in
-    report_all old.slot old.seat.me c.take-held.new.seat.me c.take-held.result old.idle c.take-held.ensures.taken c.scan-scanned.new.session c.scan-scanned.ensures.same.same_member c.give.new.seat.me c.give.ensures.given _ c.requires.its_own.same_first
-    c.args.lo (stop_of c.args.hi scanned.next) entries (fits_below c.args.lo c.args.hi (length c.args.into.now) scanned.filled scanned.next c.ranges.hi.fits c.scan-scanned.ensures.stopped) told
+    let scanned = c.scan_in_place.result in
+    subst (λ (k : Known). IsReport (opening_of c.args.self.now) k.seen (own_of c.scan_in_place.new.seat.me.0).seen c.args.lo (stop_of c.args.hi scanned.next) (take scanned.filled c.scan_in_place.new.into))
+    (knows_at_slot old.slot old.seat.me c.take_slot.new.seat.me old.idle c.take_slot.ensures.taken) c.scan_in_place.ensures.report
 
 pub returns-clause-same : goal.returns-clause-same
 returns-clause-same g c =
     let old = c.args.session.now in
-    let same = c.scan-scanned.ensures.same in
-    record {
-      saw = saw_more old.slot old.seat.me c.take-held.new.seat.me c.take-held.result old.idle c.take-held.ensures.taken c.scan-scanned.new.session same.same_member c.give.new.seat.me c.give.ensures.given same.saw;
-      made = made_same old.slot old.seat.me c.take-held.new.seat.me c.take-held.result old.idle c.take-held.ensures.taken c.scan-scanned.new.session same.same_member c.give.new.seat.me c.give.ensures.given same.made;
-      same_slot = record {
-        same_table = c.give.ensures.same ∙ c.take-held.ensures.same;
-        same_first = first_again old.slot old.seat.me c.take-held.new.seat.me c.take-held.result old.idle c.take-held.ensures.taken c.scan-scanned.new.session same.same_member c.give.new.seat.me c.give.ensures.given;
-        same_place = refl;
-      };
-    }
+    let again = as_before old.slot old.seat.me c.take_slot.new.seat.me old.idle c.take_slot.ensures.taken c.scan_in_place.new.seat.me c.scan_in_place.ensures.idle in
+    same_beside_seen old _ (c.scan_in_place.ensures.same ∙ c.take_slot.ensures.same) refl again

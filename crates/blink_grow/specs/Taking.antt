@@ -1,0 +1,33 @@
+-- A seat takes the slot of its session, reads by the session that lies there, and gives the slot back.
+use Rattle.std.specs.Prelude.{◌≡◌, ℕ, Some, None, ◌∷◌}
+use mathlib.Core.List.{IsPrefix}
+use Rattle.atomic_table.specs.Table.{rest}
+use Rattle.blink_grow.specs.declared.slots.Current.{Current}
+use Rattle.blink_grow.specs.Own.{IsIdle, KnowsAuthors, own_of}
+use Rattle.blink_grow.specs.Rule.{SlotSeat}
+use Rattle.blink_grow.specs.Steps.{CanGive, Taken}
+
+-- the seat has taken the slot, and the session still lies there
+abbrev pub HasTakenSlot : ℕ → SlotSeat → SlotSeat → Type 0
+HasTakenSlot slot me after = (held : Current) × Taken slot held (Some held) me after
+
+-- the seat of an idle session has taken that session's slot, and nothing out of it
+pub record HasOwnSlot (slot : ℕ) (me : SlotSeat) : Type 0 where
+  pub before : SlotSeat
+  pub idle : IsIdle slot before
+  pub taken : HasTakenSlot slot before me
+
+-- the seat took the slot last, and may give it back with the session that lies in it now
+pub record CanGiveBack (slot : ℕ) (me : SlotSeat) : Type 0 where
+  pub held : Current
+  pub there : me.1 ≡ (slot, Some held) ∷ rest me.1
+  pub can : CanGive slot (me.0, (slot, None) ∷ rest me.1) held
+
+-- the seat has given the slot back. Its session is idle, and is as it was, except that it may have seen more
+pub record IsIdleAgain (slot : ℕ) (old new : SlotSeat) : Type 0 where
+  pub idle : IsIdle slot new
+  pub authors : KnowsAuthors slot new.0
+  pub same_first : new.0.first ≡ old.0.first
+  pub same_slots : new.0.slots ≡ old.0.slots
+  pub saw : IsPrefix (own_of old.0).seen (own_of new.0).seen
+  pub made : (own_of new.0).made ≡ (own_of old.0).made
