@@ -694,9 +694,11 @@ void blink_session_free(blink_session session);
  * with more room, and all go on there. So it is never refused with BLINK_FULL. What the calls of sessions promise is that of the map's, and
  * there is one list of changes, which goes on through all renewals.
  *
- * A renewal takes the time of a copy of all entries, and memory for both maps. All sessions wait for it, those that search too: a call that
- * comes meanwhile is refused with BLINK_RENEWING after `tries` looks, and changes nothing. So is a change that finds the map full while a
- * session is held (blink_growing_session_hold), has an operation under way, or is in a call. Call again then; the functions that wait do.
+ * A renewal takes the time of a copy of all entries, and memory for both maps. Searches go on meanwhile: one waits only while the sessions
+ * are gathered, before the copy and after, or if its session is with the renewal, which is that of the change that renews, or of some thread
+ * where blink_growing_renew does. Changes wait for all of it. A call that has to wait is refused with BLINK_RENEWING after `tries` looks,
+ * and changes nothing. So is a change that finds the map full while a session is held (blink_growing_session_hold), has an operation under
+ * way, or is in a call. Call again then; the functions that wait do.
  *
  * Different handles may be used at the same time, each by one thread: who needs the map in another thread has a handle of it by
  * blink_growing_share. From the opening to the close, each code to be looked at:

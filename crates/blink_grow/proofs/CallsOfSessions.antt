@@ -1,9 +1,9 @@
 -- What a call of the current map's session tells of a session.
-use Rattle.std.proofs.Common.{◌≡◌, ℕ, zero, suc, ◌<◌, inr, Option, Some, None, List, [], ◌∷◌, ◌++◌, length, refl, sym, ap, ◌∙◌, subst, append_assoc, append-nil, arith}
+use Rattle.std.proofs.Common.{◌≡◌, ℕ, zero, suc, ◌+◌, ◌<◌, inr, Bool, true, false, Option, Some, None, List, [], ◌∷◌, ◌++◌, length, length-append, refl, sym, ap, ◌∙◌, subst, append_assoc, append-nil, arith}
 use Rattle.std.specs.Prelude.{if◌then◌else◌, ◌==◌, ◌^◌, Result, Ok, Err, IfOk, OnErr, IfSome}
 use Rattle.blink_batch.specs.declared.Answer.{Answer}
 use Rattle.blink_batch.specs.declared.Op.{Op}
-use Rattle.blink_batch.specs.{FitsWords, answer_at, key_of}
+use Rattle.blink_batch.specs.{FitsWords, answer_at, cell_after, key_of}
 use Rattle.blink_batch.specs.declared.Op.TheVariants.{Delete, DeleteExact, Exchange, Find, Insert, Replace}
 use Rattle.blink_map.specs.declared.error.Full.{Full}
 use Rattle.blink_map.specs.{AnswersInOrder, HasTried, IsAnswered, IsSameBesideRoom, IsSameMember, IsSessionOf, IsUnchangedBy, made_by, opening_of, place_of, seen_by}
@@ -13,7 +13,7 @@ use Rattle.std.specs.Arc.{arc_value}
 use Rattle.atomic_table.specs.Table.{rest}
 use Rattle.blink_batch.specs.declared.Entry.{Entry}
 use Rattle.blink_batch.specs.{pointer_of}
-use Rattle.blink_live.specs.{HaveAuthors, IsReport, IsReportBack, IsSnapshot, StoppedFull, after, changes_made, made_at, put, stop_of}
+use Rattle.blink_live.specs.{HaveAuthors, IsReport, IsReportBack, IsSnapshot, StoppedFull, after, changes_made, has_changed, made_at, put, stop_of}
 use Rattle.blink_live.specs.declared.view.Change.{Change}
 use Rattle.blink_live.specs.declared.view.Plan.{Plan}
 use Rattle.blink_live.proofs.Offered.{after-append, made_at-append, prefix_of_prefix}
@@ -22,6 +22,7 @@ use Rattle.blink_map.specs.declared.map.Session.{Session as MapSession}
 use Rattle.blink_grow.specs.declared.slots.Current.{Current}
 use Rattle.blink_grow.specs.declared.slots.Generation.{Generation}
 use Rattle.blink_grow.specs.declared.slots.Known.{Known}
+use Rattle.blink_grow.specs.Counts.{made_in, made_with}
 use Rattle.blink_grow.specs.Own.{IsIdle, KnowsAuthors, own_of}
 use Rattle.blink_grow.specs.Rule.{Account, IsContinued, IsCurrentAt, IsGeneration, SlotSeat, known_of}
 use Rattle.blink_grow.specs.Steps.{CanGive, Taken, front_of, has_given, past_of, while_some, with_known}
@@ -48,11 +49,48 @@ whole_list first slots g is seen key inside = after_same (pointer_of (opening_of
 pub still_its : (map : Map) (old new : MapSession) → IsSessionOf map old → IsSameMember old.member new.member → IsSessionOf map new
 still_its map old new its same = record { member = record { same_table = same.same_table ∙ its.member.same_table; same_plan = same.same_plan ∙ its.member.same_plan } }
 
-abbrev pub held_with : Current → MapSession → Current
-held_with held session = record held { session = session }
+-- a session that may have made changes, of which so many are counted
+abbrev pub held_with : Current → MapSession → ℕ → Current
+held_with held session changes = record held { session = session; changes = changes }
 
-pub still_current : (g : Generation) (slot : ℕ) (held : Current) (session : MapSession) → IsCurrentAt g slot held → IsSameMember held.session.member session.member → IsCurrentAt g slot (held_with held session)
-still_current g slot held session its same = record { same_map = its.same_map; its_own = still_its g.map held.session session its.its_own same; its_place = same.same_place ∙ its.its_place }
+-- the count is right after a call, if it was before
+abbrev pub IsCounted : Current → MapSession → ℕ → Type 0
+IsCounted held session changes = (held.changes + 1 < 2 ^ 64 → length (made_by held.session) ≡ held.changes) → changes + 1 < 2 ^ 64 → length (made_by session) ≡ changes
+
+pub still_current : (g : Generation) (slot : ℕ) (held : Current) (session : MapSession) (changes : ℕ) → IsCurrentAt g slot held → IsSameMember held.session.member session.member → IsCounted held session changes → IsCurrentAt g slot (held_with held session changes)
+still_current g slot held session changes its same counted = record {
+  same_map = its.same_map;
+  its_own = still_its g.map held.session session its.its_own same;
+  its_place = same.same_place ∙ its.its_place;
+  counted = counted its.counted;
+}
+
+-- a session to which nothing was done
+pub same_session : (session : MapSession) → IsSameMember session.member session.member
+same_session session = record { same_table = refl; same_plan = refl; same_place = refl }
+
+-- a call that made no change
+pub none_counted : (held : Current) (session : MapSession) → made_by session ≡ made_by held.session → IsCounted held session held.changes
+none_counted held session same was few = ap (λ (l : List Change). length l) same ∙ was few
+
+-- an answer tells how many changes were made
+made_long : (place : ℕ) (op : Op) (kept : Option ℕ) → length (changes_made place op kept) ≡ made_with (answer_at op kept)
+made_long place op kept = by_test (has_changed (answer_at op kept))
+  where
+    by_test : (b : Bool) → length (if b then (let l : List Change = record { author = place; key = key_of op; pointer = cell_after op kept } ∷ [] in l) else []) ≡ (if b then 1 else 0)
+    by_test true = refl
+    by_test false = refl
+
+-- an operation that was answered
+pub answer_counted : (held : Current) (session : MapSession) (place : ℕ) (op : Op) (kept : Option ℕ) (answer : Answer) (changes : ℕ) → answer ≡ answer_at op kept → made_by session ≡ made_by held.session ++ changes_made place op kept
+    → (changes + 1 < 2 ^ 64 → changes ≡ held.changes + made_with answer) → IsCounted held session changes
+answer_counted held session place op kept answer changes is made counted was few =
+    let now = counted few in
+    let one : length (changes_made place op kept) ≡ made_with answer = made_long place op kept ∙ ap made_with (sym is) in
+    let long = length-append (made_by held.session) (changes_made place op kept) in
+    let whole = ap (λ (l : List Change). length l) made in
+    let before = was (omega (arith, few, now)) in
+    omega (arith, now, one, long, whole, before)
 
 -- what an operation has answered, by what a session knew before and knows now
 abbrev pub InOrder : List Entry → Op → ℕ → Known → Known → Answer → Type 0
@@ -78,6 +116,10 @@ saw_answer opening op old new answer i =
     let made : List Change = changes_made (place_of old) op (after (pointer_of opening) i.before (key_of op)) in
     prefix_of_prefix (seen_by old) i.before (seen_by new) i.saw (prefix_of_prefix i.before (i.before ++ made) (seen_by new) (made, refl) i.goes_on)
 
+pub in_order_counted : (opening : List Entry) (op : Op) (held : Current) (new : MapSession) (answer : Answer) (changes : ℕ) → AnswersInOrder opening op held.session.member new.member answer
+    → (changes + 1 < 2 ^ 64 → changes ≡ held.changes + made_with answer) → IsCounted held new changes
+in_order_counted opening op held new answer changes i counted = answer_counted held new (place_of held.session) op (after (pointer_of opening) i.before (key_of op)) answer changes i.answers i.made counted
+
 -- a refused operation has changed nothing
 unchanged_but_room : (old new : MapSession) → IsSameBesideRoom old new → HasTried old new
 unchanged_but_room old new same = record { saw = ([], append-nil (seen_by old) ∙ sym same.seen); made = same.made; same_member = same.same_member }
@@ -94,10 +136,26 @@ pub after_outcome : (map : Map) (op : Op) (old new : MapSession) (outcome : Resu
 after_outcome map op old new (Ok answer) answered unchanged = record { saw = saw_answer (opening_of map) op old new answer answered.in_order; same_member = answered.same_member }
 after_outcome map op old new (Err full) answered unchanged = let tried = has_tried op old new unchanged in record { saw = tried.saw; same_member = tried.same_member }
 
+pub outcome_counted : (map : Map) (op : Op) (held : Current) (new : MapSession) (changes : ℕ) (outcome : Result Answer Full) → IfOk outcome (IsAnswered map op held.session new) → OnErr outcome (IsUnchangedBy op held.session new)
+    → (changes + 1 < 2 ^ 64 → changes ≡ held.changes + made_in outcome) → IsCounted held new changes
+outcome_counted map op held new changes (Ok answer) answered unchanged counted = in_order_counted (opening_of map) op held new answer changes answered.in_order counted
+outcome_counted map op held new changes (Err full) answered unchanged counted = still (has_tried op held.session new unchanged).made counted
+  where
+    still : made_by new ≡ made_by held.session → (changes + 1 < 2 ^ 64 → changes ≡ held.changes + 0) → IsCounted held new changes
+    still made none was few =
+        let now = none few in
+        let same = ap (λ (l : List Change). length l) made in
+        let before = was (omega (arith, few, now)) in
+        omega (arith, now, same, before)
+
 -- what a session of the map has seen of its own, and of others
 module _ (first : List Entry) (slots slot : ℕ) (g : Generation) (held : Current) (is : IsGeneration first slots g) (its : IsCurrentAt g slot held) where
   same_places : held.session.member.seat.me.0.plan.places ≡ slots
   same_places = ap (λ (p : Plan). p.places) its.its_own.member.same_plan ∙ (sym g.map.live.places_are ∙ is.places)
+
+  -- each change that it has seen was made at one of the slots
+  pub saw_authors : HaveAuthors slots (seen_by held.session)
+  saw_authors = subst (λ (n : ℕ). HaveAuthors n (seen_by held.session)) same_places held.session.member.authors.1
 
   pub saw_own : made_at slot (seen_by held.session) ≡ made_by held.session
   saw_own = ap (λ (n : ℕ). made_at n (seen_by held.session)) (sym its.its_place) ∙ held.session.member.authors.0
@@ -106,22 +164,22 @@ module _ (first : List Entry) (slots slot : ℕ) (g : Generation) (held : Curren
   knows_own = made_at-append slot g.past (seen_by held.session) ∙ ap (λ (l : List Change). made_at slot g.past ++ l) saw_own
 
   pub knows_all : HaveAuthors slots (known_of g.past slot held).seen
-  knows_all = both g.past (seen_by held.session) is.authors (subst (λ (n : ℕ). HaveAuthors n (seen_by held.session)) same_places held.session.member.authors.1)
+  knows_all = both g.past (seen_by held.session) is.authors saw_authors
     where
       both : (one other : List Change) → HaveAuthors slots one → HaveAuthors slots other → HaveAuthors slots (one ++ other)
       both [] other all_one all_other k d inside = all_other k d inside
       both (x ∷ one) other all_one all_other zero d inside = all_one 0 d (omega arith)
       both (x ∷ one) other all_one all_other (suc k) d inside = both one other (λ j e within. all_one (suc j) e (omega (arith, within))) all_other k d (omega (arith, inside))
 
-module _ (slot : ℕ) (me out : SlotSeat) (held : Current) (idle : IsIdle slot me) (taken : Taken slot held None me out) (session : MapSession) (same : IsSameMember held.session.member session.member) where
+module _ (slot : ℕ) (me out : SlotSeat) (held : Current) (idle : IsIdle slot me) (taken : Taken slot held None me out) (session : MapSession) (changes : ℕ) (same : IsSameMember held.session.member session.member) (counted : IsCounted held session changes) where
   abbrev held_then : Current
-  held_then = held_with held session
+  held_then = held_with held session changes
 
   abbrev known_then : Known
   known_then = known_of taken.now.past slot held_then
 
   its_then : IsCurrentAt taken.now slot held_then
-  its_then = still_current taken.now slot held session taken.its same
+  its_then = still_current taken.now slot held session changes taken.its same counted
 
   own : IsContinued (own_of me.0) (known_of taken.now.past slot held)
   own = taken.own 0 (own_of me.0) (ap (λ (l : List Account). get_elem? l 0) idle.alone)

@@ -28,7 +28,7 @@ use Rattle.blink_grow.specs.Own.{IsIdle, KnowsAuthors, own_in, own_of}
 use Rattle.blink_grow.specs.Rule.{Account, IsContinued, IsCurrentAt, IsGeneration, SlotSeat, known_of}
 use Rattle.blink_grow.specs.Steps.{CanGive, Taken, front_of, has_given, has_taken, past_of, while_some, with_known}
 use Rattle.blink_grow.proofs.Basics.{prefix_behind, with_own}
-use Rattle.blink_grow.proofs.CallsOfSessions.{held_with, knows_all, knows_own, still_current, whole_list}
+use Rattle.blink_grow.proofs.CallsOfSessions.{IsCounted, held_with, knows_all, knows_own, none_counted, still_current, whole_list}
 
 -- ---- one list goes on from another
 
@@ -138,19 +138,23 @@ module _ (slot : ℕ) (me : SlotSeat) (current : Current) (held : IsHeld slot me
   abbrev past : List Change
   past = past_of me.0.now
 
-  pub held_again : IsPrefix (seen_by current.session) (seen_by session) → IsSameMember current.session.member session.member → IsHeld slot me (held_with current session)
-  held_again more same = record {
+  -- one that may have made changes, of which so many are counted
+  pub held_counted : (changes : ℕ) → IsPrefix (seen_by current.session) (seen_by session) → IsSameMember current.session.member session.member → IsCounted current session changes → IsHeld slot me (held_with current session changes)
+  held_counted changes more same counted = record {
     alone = held.alone;
     is_now = held.is_now;
     is_generation = held.is_generation;
-    its = still_current (held_in me current) slot current session held.its same;
+    its = still_current (held_in me current) slot current session changes held.its same counted;
     taken = held.taken;
     goes_on = goes_on_from (own_in me.0.taken).seen (past ++ seen_by session)
         (prefix_of_prefix (own_in me.0.taken).seen (past ++ seen_by current.session) (past ++ seen_by session) (is_prefix (own_in me.0.taken).seen (past ++ seen_by current.session) held.goes_on) (prefix_behind past (seen_by current.session) (seen_by session) more));
     out = held.out;
   }
 
-  pub knows_more : IsPrefix (seen_by current.session) (seen_by session) → made_by session ≡ made_by current.session → IsContinued (known_of past slot current) (known_of past slot (held_with current session))
+  pub held_again : IsPrefix (seen_by current.session) (seen_by session) → IsSameMember current.session.member session.member → made_by session ≡ made_by current.session → IsHeld slot me (held_with current session current.changes)
+  held_again more same made = held_counted current.changes more same (none_counted current session made)
+
+  pub knows_more : IsPrefix (seen_by current.session) (seen_by session) → made_by session ≡ made_by current.session → IsContinued (known_of past slot current) (known_of past slot (held_with current session current.changes))
   knows_more more same = record { saw = prefix_behind past (seen_by current.session) (seen_by session) more; made = ap (λ (l : List Change). made_at slot past ++ l) (sym same) }
 
   -- what the current map's list leaves is what the whole list leaves of the first entries
@@ -194,7 +198,7 @@ module _ (slot : ℕ) (me : SlotSeat) (current : Current) (held : IsHeld slot me
     }
 
     pub answers_whole : (op : Op) → key_of op < 2 ^ 64 → (answer : Answer) → AnswersInOrder (opening_of (arc_value current.map)) op current.session.member session.member answer
-        → AnswersFrom first op slot (known_of past slot current) (known_of past slot (held_with current session)) answer
+        → AnswersFrom first op slot (known_of past slot current) (known_of past slot (held_with current session current.changes)) answer
     answers_whole op inside answer i =
         let kept : Option ℕ = after (pointer_of (opening_of (arc_value current.map))) i.before (key_of op) in
         let whole : Option ℕ = after (pointer_of first) (past ++ i.before) (key_of op) in

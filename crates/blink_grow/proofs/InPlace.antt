@@ -18,7 +18,7 @@ use Rattle.blink_grow.specs.Rule.{SlotSeat, known_of}
 use Rattle.blink_grow.specs.Sessions.{IsSameBesideSeen}
 use Rattle.blink_grow.specs.Steps.{CanGive, Taken, has_given, past_of}
 use Rattle.blink_grow.specs.Taking.{HasOwnSlot, HasTakenSlot, IsIdleAgain}
-use Rattle.blink_grow.proofs.CallsOfSessions.{authors_again, can_give, first_again, held_with, idle_again, made_same, report_all, report_back_all, saw_more, slots_again, snapshot_all, tells}
+use Rattle.blink_grow.proofs.CallsOfSessions.{authors_again, can_give, first_again, held_with, idle_again, made_same, none_counted, report_all, report_back_all, saw_more, slots_again, snapshot_all, tells}
 use Rattle.blink_grow.proofs.OutSlots.{first_is_full, head_rest, taken_out}
 
 -- ---- the slot isn't empty
@@ -52,36 +52,36 @@ module _ (slot : ℕ) (me : SlotSeat) (own : HasOwnSlot slot me) (found : Option
   knows_same = ap (λ (m : SlotSeat). own_of m.0) own.taken.1.is
 
   module _ (session : MapSession) (same : SeesMoreInMap current.session session) where
-    pub can_give_then : CanGive slot emptied (held_with current session)
-    can_give_then = can_give slot own.before emptied current own.idle taken_then session same.same_member same.saw
+    pub can_give_then : CanGive slot emptied (held_with current session current.changes)
+    can_give_then = can_give slot own.before emptied current own.idle taken_then session current.changes same.same_member (none_counted current session same.made) same.saw
 
-    module _ (after_me : SlotSeat) (given_is : after_me ≡ (has_given me.0 slot (known_of (past_of me.0.now) slot (held_with current session)), rest me.1)) where
+    module _ (after_me : SlotSeat) (given_is : after_me ≡ (has_given me.0 slot (known_of (past_of me.0.now) slot (held_with current session current.changes)), rest me.1)) where
       pub idle_then : IsIdleAgain slot me after_me
       idle_then = record {
-        idle = idle_again slot own.before emptied current own.idle taken_then session same.same_member after_me given_is;
-        authors = authors_again slot own.before emptied current own.idle taken_then session same.same_member after_me given_is;
-        same_first = first_again slot own.before emptied current own.idle taken_then session same.same_member after_me given_is ∙ sym first_same;
-        same_slots = slots_again slot own.before emptied current own.idle taken_then session same.same_member after_me given_is ∙ sym slots_same;
-        saw = subst (λ (k : Known). IsPrefix k.seen (own_of after_me.0).seen) (sym knows_same) (saw_more slot own.before emptied current own.idle taken_then session same.same_member after_me given_is same.saw);
-        made = made_same slot own.before emptied current own.idle taken_then session same.same_member after_me given_is same.made ∙ ap (λ (k : Known). k.made) (sym knows_same);
+        idle = idle_again slot own.before emptied current own.idle taken_then session current.changes same.same_member (none_counted current session same.made) after_me given_is;
+        authors = authors_again slot own.before emptied current own.idle taken_then session current.changes same.same_member (none_counted current session same.made) after_me given_is;
+        same_first = first_again slot own.before emptied current own.idle taken_then session current.changes same.same_member (none_counted current session same.made) after_me given_is ∙ sym first_same;
+        same_slots = slots_again slot own.before emptied current own.idle taken_then session current.changes same.same_member (none_counted current session same.made) after_me given_is ∙ sym slots_same;
+        saw = subst (λ (k : Known). IsPrefix k.seen (own_of after_me.0).seen) (sym knows_same) (saw_more slot own.before emptied current own.idle taken_then session current.changes same.same_member (none_counted current session same.made) after_me given_is same.saw);
+        made = made_same slot own.before emptied current own.idle taken_then session current.changes same.same_member (none_counted current session same.made) after_me given_is same.made ∙ ap (λ (k : Known). k.made) (sym knows_same);
       }
 
       module _ (first : List Entry) (same_first : me.0.first ≡ first) where
         pub tells_then : (shown : Option ℕ) (key : ℕ) → key < 2 ^ 64 → shown ≡ after (pointer_of (opening_of (arc_value current.map))) (seen_by session) key → shown ≡ after (pointer_of first) (own_of after_me.0).seen key
-        tells_then = tells slot own.before emptied current own.idle taken_then session same.same_member after_me given_is first (sym first_same ∙ same_first)
+        tells_then = tells slot own.before emptied current own.idle taken_then session current.changes same.same_member (none_counted current session same.made) after_me given_is first (sym first_same ∙ same_first)
 
         pub report_then : (lo stop : ℕ) (entries : List Entry) → ((key : ℕ) → key < stop → key < 2 ^ 64) → IsReport (opening_of (arc_value current.map)) (seen_by current.session) (seen_by session) lo stop entries
             → IsReport first (own_of me.0).seen (own_of after_me.0).seen lo stop entries
         report_then lo stop entries fits report = subst (λ (k : Known). IsReport first k.seen (own_of after_me.0).seen lo stop entries) (sym knows_same)
-            (report_all slot own.before emptied current own.idle taken_then session same.same_member after_me given_is first (sym first_same ∙ same_first) lo stop entries fits report)
+            (report_all slot own.before emptied current own.idle taken_then session current.changes same.same_member (none_counted current session same.made) after_me given_is first (sym first_same ∙ same_first) lo stop entries fits report)
 
         pub report_back_then : (lo hi : ℕ) (entries : List Entry) → hi < 2 ^ 64 → IsReportBack (opening_of (arc_value current.map)) (seen_by current.session) (seen_by session) lo hi entries
             → IsReportBack first (own_of me.0).seen (own_of after_me.0).seen lo hi entries
         report_back_then lo hi entries fits report = subst (λ (k : Known). IsReportBack first k.seen (own_of after_me.0).seen lo hi entries) (sym knows_same)
-            (report_back_all slot own.before emptied current own.idle taken_then session same.same_member after_me given_is first (sym first_same ∙ same_first) lo hi entries fits report)
+            (report_back_all slot own.before emptied current own.idle taken_then session current.changes same.same_member (none_counted current session same.made) after_me given_is first (sym first_same ∙ same_first) lo hi entries fits report)
 
         pub snapshot_then : (lo hi : ℕ) (entries : List Entry) → hi < 2 ^ 64 → IsSnapshot (opening_of (arc_value current.map)) (seen_by session) lo hi entries → IsSnapshot first (own_of after_me.0).seen lo hi entries
-        snapshot_then = snapshot_all slot own.before emptied current own.idle taken_then session same.same_member after_me given_is first (sym first_same ∙ same_first)
+        snapshot_then = snapshot_all slot own.before emptied current own.idle taken_then session current.changes same.same_member (none_counted current session same.made) after_me given_is first (sym first_same ∙ same_first)
 
 -- ---- a session of which the seat took the slot, and gave it back
 

@@ -1,5 +1,6 @@
 pub mod Basics
 pub mod OutSlots
+pub mod NoChangeMore
 pub mod SlotIsTaken
 pub mod SlotIsGiven
 pub mod MapSwitches
@@ -11,6 +12,7 @@ pub mod HeldSessions
 pub mod HoldsForACall
 pub mod Opens
 pub mod Gathers
+pub mod Copies
 pub mod NextMap
 pub mod Tries
 pub mod SeatsCompare

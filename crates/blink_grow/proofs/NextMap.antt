@@ -1,5 +1,5 @@
 -- The next map goes on from all that the sessions of the current one have seen, and its sessions can lie in the slots.
-use Rattle.std.proofs.Common.{◌≡◌, ℕ, zero, suc, ◌<◌, ◌^◌, Option, List, [], ◌++◌, length, append-nil, refl, sym, ap, ◌∙◌, subst, arith}
+use Rattle.std.proofs.Common.{◌≡◌, ℕ, zero, suc, ◌<◌, ◌^◌, Option, List, [], ◌++◌, length, append-nil, refl, sym, ap, ◌∙◌, subst, ⊎_elim, arith}
 use mathlib.Core.Option.{some, some-injective}
 use mathlib.Core.List.{IsPrefix}
 use lib.ListN.{get_elem?}
@@ -19,13 +19,14 @@ use Rattle.blink_grow.specs.declared.slots.Generation.{Generation}
 use Rattle.blink_grow.specs.declared.slots.Known.{Known}
 use Rattle.blink_grow.specs.declared.slots.SlotView.{SlotView}
 use Rattle.blink_grow.specs.Closing.{HasEnded}
-use Rattle.blink_grow.specs.Laid.{IsFirstIn}
+use Rattle.blink_grow.specs.Laid.{IsFirstIn, slot_behind}
 use Rattle.blink_grow.specs.Rule.{Account, IsGeneration, SlotSeat, generation_of}
-use Rattle.blink_grow.specs.Renewing.{AreEntriesSeen, AreNext, AreOfOneMap, HasHeardAll, HasSeenOwn, HaveSeenOwn, IsCopied, IsRenewing, IsTakenFor, first_slots}
+use Rattle.blink_grow.specs.Renewing.{AreEntriesSeen, AreNext, AreOfOneMap, HasHeardAll, HasSeenOwn, HaveSeenOwn, IsCopied, IsRenewing, IsTakenFor, slots_out}
 use Rattle.blink_grow.specs.Sessions.{opening_of, places_of}
 use Rattle.blink_grow.specs.Steps.{AreAllTaken, Follows, Switched}
 use Rattle.blink_grow.proofs.Basics.{in_list, prefix_behind, prefix_refl, there_is}
 use Rattle.blink_grow.proofs.CallsOfSessions.{knows_all, whole_list}
+use Rattle.blink_grow.proofs.NoChangeMore.{IsBehind, one_or_behind}
 
 abbrev SlotsSeat : Type 0
 SlotsSeat = Seat (Option Current) SlotView
@@ -33,7 +34,7 @@ SlotsSeat = Seat (Option Current) SlotView
 -- ---- what was known in a taken slot is in the longer list
 
 -- the session of the slot, of which all is seen by the one that leads
-module _ (now : Generation) (taken : List Account) (slot : ℕ) (held lead : Current) (one : IsTakenFor now taken slot held) (heard : IsPrefix (seen_by held.session) (seen_by lead.session)) (own : HasSeenOwn lead held) where
+module _ (now : Generation) (taken : List Account) (level slot : ℕ) (held lead : Current) (one : IsTakenFor now taken level slot held) (heard : IsPrefix (seen_by held.session) (seen_by lead.session)) (own : HasSeenOwn lead held) where
   abbrev all_seen : List Change
   all_seen = now.past ++ seen_by lead.session
 
@@ -46,20 +47,26 @@ module _ (now : Generation) (taken : List Account) (slot : ℕ) (held lead : Cur
   pub known_is_made : one.known.made ≡ made_at slot all_seen
   known_is_made = one.is.made ∙ (ap (λ (l : List Change). made_at slot now.past ++ l) (sym own_at_slot) ∙ sym (made_at-append slot now.past (seen_by lead.session)))
 
-same_known : (taken : List Account) (slot : ℕ) (known : Known) (one : Account) → get_elem? taken slot ≡ some (slot, known) → get_elem? taken slot ≡ some one → (slot, known) ≡ one
-same_known taken slot known one there is = some-injective (slot, known) one (sym there ∙ is)
+-- the slot is one of those taken
+abbrev IsThere : List Account → ℕ → Type 0
+IsThere taken slot = (k : ℕ) × (known : Known) × (get_elem? taken k ≡ some (slot, known))
 
-module _ (map : GrowingMap) (seat : SlotsSeat) (lead : Current) (others : List Current) (r : IsRenewing map seat lead others) where
+same_known : (taken : List Account) (level slot : ℕ) (known : Known) (one : Account) → get_elem? taken level ≡ some (slot, known) → get_elem? taken level ≡ some one → (slot, known) ≡ one
+same_known taken level slot known one there is = some-injective (slot, known) one (sym there ∙ is)
+
+module _ (map : GrowingMap) (seat : SlotsSeat) (copier : ℕ) (lead : Current) (others : List Current) (r : IsRenewing map seat copier lead others) where
   -- all slots are taken
   pub all_taken : suc (length others) ≡ places_of map → AreAllTaken (places_of map) seat.me.0.taken
   all_taken all = record { each = each }
     where
-      each : (slot : ℕ) → slot < places_of map → (k : ℕ) × (known : Known) × (get_elem? seat.me.0.taken k ≡ some (slot, known))
-      each zero inside = (0, r.first_one.known, r.first_one.there)
-      each (suc k) inside =
-          let held = there_is others k (omega (arith, all, inside)) in
-          let one = r.each k held.0 held.1 in
-          (suc k, one.known, one.there)
+      each : (slot : ℕ) → slot < places_of map → IsThere seat.me.0.taken slot
+      each slot inside = ⊎_elim
+          (λ (same : slot ≡ copier). subst (IsThere seat.me.0.taken) (sym same) (0, r.first_one.known, r.first_one.there))
+          (λ (is : IsBehind copier (length others) slot).
+          let held = there_is others is.0 is.1 in
+          let one = r.each is.0 held.0 held.1 in
+          subst (IsThere seat.me.0.taken) is.2 (suc is.0, one.known, one.there))
+          (one_or_behind copier (length others) slot (let within = r.in_range in omega (arith, all, within)) (omega (arith, all, inside)))
 
   lead_seen_own : HasSeenOwn lead lead
   lead_seen_own = lead.session.member.authors.0
@@ -69,22 +76,22 @@ module _ (map : GrowingMap) (seat : SlotsSeat) (lead : Current) (others : List C
     all_changes = r.now.past ++ seen_by lead.session
 
     pub saw_all : (k : ℕ) (one : Account) → get_elem? seat.me.0.taken k ≡ some one → IsPrefix one.1.seen all_changes
-    saw_all zero one is = subst (λ (a : Account). IsPrefix a.1.seen all_changes) (same_known seat.me.0.taken 0 r.first_one.known one r.first_one.there is)
-        (known_is_seen r.now seat.me.0.taken 0 lead lead r.first_one (prefix_refl (seen_by lead.session)) lead_seen_own)
+    saw_all zero one is = subst (λ (a : Account). IsPrefix a.1.seen all_changes) (same_known seat.me.0.taken 0 copier r.first_one.known one r.first_one.there is)
+        (known_is_seen r.now seat.me.0.taken 0 copier lead lead r.first_one (prefix_refl (seen_by lead.session)) lead_seen_own)
     saw_all (suc k) one is =
         let held = there_is others k (let inside = in_list seat.me.0.taken (suc k) one is in let w = r.width in omega (arith, inside, w)) in
         let its = r.each k held.0 held.1 in
-        subst (λ (a : Account). IsPrefix a.1.seen all_changes) (same_known seat.me.0.taken (suc k) its.known one its.there is)
-        (known_is_seen r.now seat.me.0.taken (suc k) held.0 lead its (heard k held.0 held.1) (own k held.0 held.1))
+        subst (λ (a : Account). IsPrefix a.1.seen all_changes) (same_known seat.me.0.taken (suc k) (slot_behind copier k) its.known one its.there is)
+        (known_is_seen r.now seat.me.0.taken (suc k) (slot_behind copier k) held.0 lead its (heard k held.0 held.1) (own k held.0 held.1))
 
     pub made_all : (k : ℕ) (one : Account) → get_elem? seat.me.0.taken k ≡ some one → one.1.made ≡ made_at one.0 all_changes
-    made_all zero one is = subst (λ (a : Account). a.1.made ≡ made_at a.0 all_changes) (same_known seat.me.0.taken 0 r.first_one.known one r.first_one.there is)
-        (known_is_made r.now seat.me.0.taken 0 lead lead r.first_one (prefix_refl (seen_by lead.session)) lead_seen_own)
+    made_all zero one is = subst (λ (a : Account). a.1.made ≡ made_at a.0 all_changes) (same_known seat.me.0.taken 0 copier r.first_one.known one r.first_one.there is)
+        (known_is_made r.now seat.me.0.taken 0 copier lead lead r.first_one (prefix_refl (seen_by lead.session)) lead_seen_own)
     made_all (suc k) one is =
         let held = there_is others k (let inside = in_list seat.me.0.taken (suc k) one is in let w = r.width in omega (arith, inside, w)) in
         let its = r.each k held.0 held.1 in
-        subst (λ (a : Account). a.1.made ≡ made_at a.0 all_changes) (same_known seat.me.0.taken (suc k) its.known one its.there is)
-        (known_is_made r.now seat.me.0.taken (suc k) held.0 lead its (heard k held.0 held.1) (own k held.0 held.1))
+        subst (λ (a : Account). a.1.made ≡ made_at a.0 all_changes) (same_known seat.me.0.taken (suc k) (slot_behind copier k) its.known one its.there is)
+        (known_is_made r.now seat.me.0.taken (suc k) (slot_behind copier k) held.0 lead its (heard k held.0 held.1) (own k held.0 held.1))
 
     -- the entries are what the whole list leaves
     pub kept_all : (entries : List Entry) → AreEntriesSeen lead entries → (key : ℕ) → key < 2 ^ 64 → pointer_of entries key ≡ after (pointer_of (opening_of map)) all_changes key
@@ -92,14 +99,14 @@ module _ (map : GrowingMap) (seat : SlotsSeat) (lead : Current) (others : List C
         ∙ (ap (λ (m : Map). after (pointer_of (opening_of_map m)) (seen_by lead.session) key) r.first_one.its.same_map
         ∙ whole_list (opening_of map) (places_of map) r.now r.is_generation (seen_by lead.session) key inside)
 
-    module _ (entries : List Entry) (kept : AreEntriesSeen lead entries) (first : Current) (rest : List Current) (next : AreNext entries (places_of map) first rest) where
+    module _ (entries : List Entry) (kept : AreEntriesSeen lead entries) (first : Current) (rest : List Current) (next : AreNext entries (places_of map) copier first rest) where
       goes_on : (key : ℕ) → key < 2 ^ 64 → pointer_of (opening_of_map next.map) key ≡ after (pointer_of (opening_of map)) all_changes key
       goes_on key inside = ap (λ (l : List Entry). pointer_of l key) next.opened ∙ kept_all entries kept key inside
 
       is_next : IsGeneration (opening_of map) (places_of map) (generation_of next.map all_changes)
       is_next = record {
         goes_on = goes_on;
-        authors = knows_all (opening_of map) (places_of map) 0 r.now lead r.is_generation r.first_one.its;
+        authors = knows_all (opening_of map) (places_of map) copier r.now lead r.is_generation r.first_one.its;
         places = next.places;
       }
 
@@ -118,8 +125,8 @@ module _ (map : GrowingMap) (seat : SlotsSeat) (lead : Current) (others : List C
 
 -- ---- the seat has switched to the next map
 
-module _ (map : GrowingMap) (old new : SlotsSeat) (lead : Current) (others : List Current) (r : IsRenewing map old lead others) (same : new.table_id ≡ old.table_id) (entries : List Entry) (first : Current) (rest : List Current)
-    (next : AreNext entries (places_of map) first rest) (all : suc (length others) ≡ places_of map) (switched : Switched (arc_value first.map) old.me new.me) where
+module _ (map : GrowingMap) (old new : SlotsSeat) (copier : ℕ) (lead : Current) (others : List Current) (r : IsRenewing map old copier lead others) (same : new.table_id ≡ old.table_id) (entries : List Entry) (first : Current) (rest : List Current)
+    (next : AreNext entries (places_of map) copier first rest) (all : suc (length others) ≡ places_of map) (switched : Switched (arc_value first.map) old.me new.me) where
   abbrev then_now : Generation
   then_now = generation_of (arc_value first.map) switched.past
 
@@ -127,30 +134,31 @@ module _ (map : GrowingMap) (old new : SlotsSeat) (lead : Current) (others : Lis
   same_width = let w = next.width in omega (arith, w, all)
 
   -- the first session of a place of the next map can lie in its slot
-  for_first : (slot : ℕ) (was held : Current) → IsTakenFor r.now old.me.0.taken slot was → IsFirstIn next.map slot held → IsTakenFor then_now old.me.0.taken slot held
-  for_first slot was held one its = record {
+  for_first : (level slot : ℕ) (was held : Current) → IsTakenFor r.now old.me.0.taken level slot was → IsFirstIn next.map slot held → IsTakenFor then_now old.me.0.taken level slot held
+  for_first level slot was held one its = record {
     known = one.known;
     there = one.there;
     its = record {
       same_map = its.same_map ∙ sym next.first_one.same_map;
       its_own = subst (λ (m : Map). IsSessionOf m held.session) (sym next.first_one.same_map) its.first.its_own;
       its_place = its.first.its_place;
+      counted = λ few. ap (λ (l : List Change). length l) its.first.none_made ∙ sym its.none_counted;
     };
     is = record {
-      saw = prefix_of_prefix one.known.seen switched.past (switched.past ++ seen_by held.session) (switched.follows.saw slot (slot, one.known) one.there) (seen_by held.session, refl);
-      made = switched.follows.made slot (slot, one.known) one.there ∙ (sym (append-nil (made_at slot switched.past)) ∙ ap (λ (l : List Change). made_at slot switched.past ++ l) (sym its.first.none_made));
+      saw = prefix_of_prefix one.known.seen switched.past (switched.past ++ seen_by held.session) (switched.follows.saw level (slot, one.known) one.there) (seen_by held.session, refl);
+      made = switched.follows.made level (slot, one.known) one.there ∙ (sym (append-nil (made_at slot switched.past)) ∙ ap (λ (l : List Change). made_at slot switched.past ++ l) (sym its.first.none_made));
     };
   }
 
   then_taken : new.me.0.taken ≡ old.me.0.taken
   then_taken = ap (λ (m : SlotSeat). m.0.taken) switched.is
 
-  each_then : (k : ℕ) (held : Current) → get_elem? rest k ≡ some held → IsTakenFor then_now new.me.0.taken (suc k) held
+  each_then : (k : ℕ) (held : Current) → get_elem? rest k ≡ some held → IsTakenFor then_now new.me.0.taken (suc k) (slot_behind copier k) held
   each_then k held e =
       let was = there_is others k (let inside = in_list rest k held e in let w = same_width in omega (arith, inside, w)) in
-      subst (λ (l : List Account). IsTakenFor then_now l (suc k) held) (sym then_taken) (for_first (suc k) was.0 held (r.each k was.0 was.1) (next.each k held e))
+      subst (λ (l : List Account). IsTakenFor then_now l (suc k) (slot_behind copier k) held) (sym then_taken) (for_first (suc k) (slot_behind copier k) was.0 held (r.each k was.0 was.1) (next.each k held e))
 
-  pub is_switched_to : IsRenewing map new first rest
+  pub is_switched_to : IsRenewing map new copier first rest
   is_switched_to = record {
     now = then_now;
     same_table = same ∙ r.same_table;
@@ -160,10 +168,11 @@ module _ (map : GrowingMap) (old new : SlotsSeat) (lead : Current) (others : Lis
     is_now = ap (λ (m : SlotSeat). m.0.now) switched.is;
     is_generation = subst (λ (l : List Entry). IsGeneration l (places_of map) then_now) r.same_first (subst (λ (n : ℕ). IsGeneration old.me.0.first n then_now) r.same_slots switched.follows.is_generation);
     width = ap (λ (l : List Account). length l) then_taken ∙ (r.width ∙ ap suc (sym same_width));
+    in_range = r.in_range;
     inside = (let w = same_width in let inside = r.inside in omega (arith, w, inside));
-    first_one = subst (λ (l : List Account). IsTakenFor then_now l 0 first) (sym then_taken) (for_first 0 lead first r.first_one next.first_one);
+    first_one = subst (λ (l : List Account). IsTakenFor then_now l 0 copier first) (sym then_taken) (for_first 0 copier lead first r.first_one next.first_one);
     each = each_then;
-    out = ap (λ (m : SlotSeat). m.1) switched.is ∙ (r.out ∙ ap (λ (n : ℕ). first_slots (suc n)) (sym same_width));
+    out = ap (λ (m : SlotSeat). m.1) switched.is ∙ (r.out ∙ ap (λ (n : ℕ). slots_out copier n) (sym same_width));
   }
 
 -- ---- a session has seen, of the changes at another's place, exactly what that one has made
@@ -175,8 +184,8 @@ own_between held lead then before told same =
 
 -- ---- the sessions in the slots are of one map
 
-pub of_one_map : (map : GrowingMap) (seat : SlotsSeat) (lead : Current) (others : List Current) → IsRenewing map seat lead others → IsSessionOf (arc_value lead.map) lead.session × AreOfOneMap lead others
-of_one_map map seat lead others r =
+pub of_one_map : (map : GrowingMap) (seat : SlotsSeat) (copier : ℕ) (lead : Current) (others : List Current) → IsRenewing map seat copier lead others → IsSessionOf (arc_value lead.map) lead.session × AreOfOneMap lead others
+of_one_map map seat copier lead others r =
     let same = r.first_one.its.same_map in (
       subst (λ (m : Map). IsSessionOf m lead.session) (sym same) r.first_one.its.its_own,
       λ k held is. subst (λ (m : Map). IsSessionOf m held.session) (sym same) (r.each k held is).its.its_own,
@@ -184,17 +193,17 @@ of_one_map map seat lead others r =
 
 -- ---- all that was known in the slots is in one list
 
-pub has_ended : (map : GrowingMap) (old : SlotsSeat) (lead : Current) (others : List Current) (entries : List Entry) → IsCopied map old lead others entries → HaveSeenOwn lead others → old.me.0.accounts ≡ [] → HasEnded map old entries
-has_ended map old lead others entries copied own none =
+pub has_ended : (map : GrowingMap) (old : SlotsSeat) (copier : ℕ) (lead : Current) (others : List Current) (entries : List Entry) → IsCopied map old copier lead others entries → HaveSeenOwn lead others → old.me.0.accounts ≡ [] → HasEnded map old entries
+has_ended map old copier lead others entries copied own none =
     let r = copied.renewing in
     record {
       final = r.now.past ++ seen_by lead.session;
       same_table = r.same_table;
       same_slots = r.same_slots;
       no_account = none;
-      all = all_taken map old lead others r copied.all;
-      saw = saw_all map old lead others r copied.heard own;
-      made = made_all map old lead others r copied.heard own;
-      authors = knows_all (opening_of map) (places_of map) 0 r.now lead r.is_generation r.first_one.its;
-      kept = kept_all map old lead others r copied.heard own entries copied.kept;
+      all = all_taken map old copier lead others r copied.all;
+      saw = saw_all map old copier lead others r copied.heard own;
+      made = made_all map old copier lead others r copied.heard own;
+      authors = knows_all (opening_of map) (places_of map) copier r.now lead r.is_generation r.first_one.its;
+      kept = kept_all map old copier lead others r copied.heard own entries (copied.kept own);
     }

@@ -1,5 +1,5 @@
 -- Sessions are laid into slots, and dealt.
-use Rattle.std.proofs.Common.{◌≡◌, ℕ, zero, suc, ◌+◌, ◌-◌, ◌<◌, Option, Some, None, List, [], ◌∷◌, ◌++◌, length, drop, get_or, length-append, refl, sym, ap, ◌∙◌, subst, ⊎_elim, arith}
+use Rattle.std.proofs.Common.{◌≡◌, ℕ, zero, suc, ◌+◌, ◌-◌, ◌<◌, Option, Some, None, List, [], ◌∷◌, ◌++◌, length, drop, take, get_or, length-append, refl, sym, ap, ◌∙◌, subst, ⊎_elim, arith}
 use Rattle.std.specs.Prelude.{slice_index_or, All}
 use mathlib.Core.Option.{some, some-injective, some-ne-none}
 use mathlib.Core.Logic.{dite}
@@ -15,13 +15,13 @@ use Rattle.blink_grow.specs.declared.growing.GrowingMap.{GrowingMap}
 use Rattle.blink_grow.specs.declared.growing.Session.{Session}
 use Rattle.blink_grow.specs.declared.slots.Current.{Current}
 use Rattle.blink_grow.specs.declared.slots.SlotView.{SlotView}
-use Rattle.blink_grow.specs.Laid.{AreFirst, AreLaid, AreOthersIn, IsFirst, IsFirstIn}
+use Rattle.blink_grow.specs.Laid.{AreFirst, AreLaid, AreOthersIn, IsFirst, IsFirstIn, slot_behind}
 use Rattle.blink_grow.specs.Opening.{AreDealt, IsFirstAt, dealer}
 use Rattle.blink_grow.specs.Own.{IsIdle, KnowsAuthors, own_of}
 use Rattle.blink_grow.specs.Sessions.{IsSessionOf, opening_of, places_of}
 use Rattle.blink_grow.specs.Rule.{SlotSeat, fresh_accounts, nothing}
 use Rattle.blink_grow.specs.Steps.{first_alone, without_first}
-use Rattle.blink_grow.proofs.Basics.{at_end, in_list, some_or}
+use Rattle.blink_grow.proofs.Basics.{at_end, in_list, some_or, there_is}
 
 -- ---- sessions are laid
 
@@ -116,16 +116,49 @@ one_longer items new session n is width =
     let long = length-append items (session ∷ []) in
     omega (arith, longer, long, width)
 
--- ---- sessions behind the first are held
+-- ---- sessions are held
 
-pub one_more_held : (map : Map) (others : List Current) (held : Current) → AreOthersIn map others → IsFirstIn map (suc (length others)) held → AreOthersIn map (others ++ held ∷ [])
-one_more_held map others held those its k other is = ⊎_elim
+-- the first sessions of the places but one, from this one of them on
+abbrev pub AreFirstBehind : Map → ℕ → ℕ → List MapSession → Type 0
+AreFirstBehind map copier from sessions = (k : ℕ) (session : MapSession) → get_elem? sessions k ≡ some session → IsFirst map (slot_behind copier (from + k)) session
+
+without_one : {A : Type 0} (l : List A) (copier k : ℕ) (a : A) → copier < length l → get_elem? (take copier l ++ drop (suc copier) l) k ≡ some a → get_elem? l (slot_behind copier k) ≡ some a
+without_one [] copier k a inside e = absurd (omega (arith, inside))
+without_one (x ∷ xs) zero k a inside e = e
+without_one (x ∷ xs) (suc copier) zero a inside e = e
+without_one (x ∷ xs) (suc copier) (suc k) a inside e = without_one xs copier k a (omega (arith, inside)) e
+
+pub all_but_one : (map : Map) (copier : ℕ) (old new : List MapSession) → copier < length old → new ≡ take copier old ++ drop (copier + 1) old → AreFirst map old → AreFirstBehind map copier 0 new
+all_but_one map copier old new inside is are k session e =
+    let next : copier + 1 ≡ suc copier = omega arith in
+    let there : get_elem? (take copier old ++ drop (suc copier) old) k ≡ some session = sym (ap (λ (l : List MapSession). get_elem? l k) (is ∙ ap (λ (n : ℕ). take copier old ++ drop n old) next)) ∙ e in
+    let same : k ≡ 0 + k = omega arith in
+    subst (λ (n : ℕ). IsFirst map (slot_behind copier n) session) same (are (slot_behind copier k) session (without_one old copier k session inside there))
+
+pub the_one : (map : Map) (copier : ℕ) (old : List MapSession) (session : MapSession) → copier < length old → session ≡ slice_index_or old copier session → AreFirst map old → IsFirst map copier session
+the_one map copier old session inside is are =
+    let one = there_is old copier inside in
+    subst (IsFirst map copier) (sym (is ∙ at_place old copier one.0 session one.1)) (are copier one.0 one.1)
+
+pub first_behind_next : (map : Map) (copier from : ℕ) (old new : List MapSession) → new ≡ drop 1 old → AreFirstBehind map copier from old → AreFirstBehind map copier (from + 1) new
+first_behind_next map copier from old new is are k session e =
+    let same : from + suc k ≡ from + 1 + k = omega arith in
+    subst (λ (n : ℕ). IsFirst map (slot_behind copier n) session) same (are (suc k) session (behind_one old k session (ap (λ (l : List MapSession). get_elem? l k) (sym is) ∙ e)))
+
+pub first_behind : (map : Map) (copier from : ℕ) (old : List MapSession) (session : MapSession) → 0 < length old → session ≡ slice_index_or old 0 session → AreFirstBehind map copier from old → IsFirst map (slot_behind copier from) session
+first_behind map copier from [] session there is are = absurd (omega (arith, there))
+first_behind map copier from (x ∷ xs) session there is are =
+    let same : from + 0 ≡ from = omega arith in
+    subst (λ (n : ℕ). IsFirst map (slot_behind copier n) session) same (are 0 session (ap some (sym is)))
+
+pub one_more_held : (map : Map) (copier : ℕ) (others : List Current) (held : Current) → AreOthersIn map copier others → IsFirstIn map (slot_behind copier (length others)) held → AreOthersIn map copier (others ++ held ∷ [])
+one_more_held map copier others held those its k other is = ⊎_elim
     (λ (old : get_elem? others k ≡ some other). those k other old)
-    (λ (new : (k ≡ length others) × (held ≡ other)). subst (λ (n : ℕ). IsFirstIn map (suc n) other) (sym new.0) (subst (IsFirstIn map (suc (length others))) new.1 its))
+    (λ (new : (k ≡ length others) × (held ≡ other)). subst (λ (n : ℕ). IsFirstIn map (slot_behind copier n) other) (sym new.0) (subst (IsFirstIn map (slot_behind copier (length others))) new.1 its))
     (at_end others held other k is)
 
-pub none_held : (map : Map) → AreOthersIn map []
-none_held map k held is = absurd (some-ne-none held (sym is))
+pub none_held : (map : Map) (copier : ℕ) → AreOthersIn map copier []
+none_held map copier k held is = absurd (some-ne-none held (sym is))
 
 -- ---- the sessions that are dealt are the map's
 

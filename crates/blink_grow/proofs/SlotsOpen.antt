@@ -7,6 +7,7 @@ use Rattle.atomic_table.specs.Table.{opening}
 use Rattle.atomic_table.proofs.Lists.{at_map}
 use Rattle.blink_batch.specs.declared.Entry.{Entry}
 use Rattle.blink_batch.specs.{pointer_of}
+use Rattle.blink_live.specs.declared.view.Change.{Change}
 use Rattle.blink_map.specs.declared.map.Map.{Map}
 use Rattle.blink_map.specs.{opening_of, places_of}
 use Rattle.blink_grow.specs.declared.slots.Current.{Current}
@@ -52,7 +53,7 @@ module _ (first : List Entry) (its_map : Map) (slots : List (Option Current)) (s
       record {
         held = one.0;
         home = at_map some slots slot (Some one.0) one.1;
-        its = record { same_map = one.2.same_map; its_own = one.2.first.its_own; its_place = one.2.first.its_place };
+        its = record { same_map = one.2.same_map; its_own = one.2.first.its_own; its_place = one.2.first.its_place; counted = λ few. ap (λ (l : List Change). length l) made ∙ sym one.2.none_counted };
         is = λ i. record { seen = sym seen i; made = sym made i };
       }
 

@@ -21,6 +21,7 @@ use Rattle.blink_grow.specs.Steps.{AreCompared, CanGive, Taken, behind_first, fi
 use Rattle.blink_grow.specs.Telling.{EitherWay, HasBoth, HasTold, HasToldBetween, HasToldSeat, IsIdleWith, IsTold, KnowsAuthorsOf}
 use Rattle.blink_grow.proofs.Basics.{prefix_behind}
 use Rattle.blink_grow.proofs.CallsOfSessions.{knows_all, knows_own}
+use Rattle.blink_grow.proofs.Gathers.{counted_still}
 
 -- what was known, and what is known by a session that may have seen more
 continued : (past : List Change) (slot : ℕ) (own : Known) (held later : Current) → IsContinued own (known_of past slot held) → MaySeeMore held later → IsContinued own (known_of past slot later)
@@ -34,6 +35,7 @@ current g slot held later its more = record {
   same_map = more.same_map ∙ its.same_map;
   its_own = record { member = record { same_table = more.same_member.same_table ∙ its.its_own.member.same_table; same_plan = more.same_member.same_plan ∙ its.its_own.member.same_plan } };
   its_place = more.same_member.same_place ∙ its.its_place;
+  counted = counted_still held later more its.counted;
 }
 
 authors_of : (slots slot : ℕ) (g : Generation) (held : Current) (first : List Entry) → IsGeneration first slots g → IsCurrentAt g slot held → KnowsAuthorsOf slots slot (known_of g.past slot held)

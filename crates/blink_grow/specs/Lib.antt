@@ -20,6 +20,7 @@ pub use Rattle.blink_grow.specs.Renewing.{IsRefusal}
 -- the first and the last entry of a range
 pub use Rattle.blink_map.specs.{IsFirstFrom, IsLastTo}
 -- ---- files that no crate above names
+pub mod Counts
 pub mod Rule
 pub mod Steps
 pub mod Laid

@@ -26,6 +26,7 @@ pub record IsPendingOf (map : GrowingMap) (pending : PendingHeld) : Type 0 where
   pub same_slot : pending.slot ≡ (held_of pending).slot
   pub same_map : pending.map ≡ (held_of pending).current.map
   pub same_number : pending.number ≡ (held_of pending).current.number
+  pub same_changes : pending.changes ≡ (held_of pending).current.changes
   pub same_session : session_of pending.now ≡ (held_of pending).current.session
   pub under_way : IsPendingIn (arc_value pending.map) pending.now
   pub fits : FitsWords (op_of pending)

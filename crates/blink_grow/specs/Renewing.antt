@@ -1,5 +1,5 @@
 -- A renewal of a growing map: the slots that its seat has taken, and the map that it opens.
-use Rattle.std.specs.Prelude.{◌≡◌, ◌⊎◌, ℕ, zero, suc, ◌<◌, ◌^◌, Option, Some, None, List, [], ◌∷◌, length}
+use Rattle.std.specs.Prelude.{◌≡◌, ◌⊎◌, ℕ, zero, suc, ◌+◌, ◌<◌, ◌≤◌, ◌^◌, Option, Some, None, List, [], ◌∷◌, length}
 use mathlib.Core.Option.{some}
 use mathlib.Core.List.{IsPrefix}
 use lib.ListN.{get_elem?}
@@ -7,6 +7,7 @@ use Rattle.std.specs.Arc.{arc_value}
 use Rattle.atomic_table.specs.declared.Seat.{Seat}
 use Rattle.blink_batch.specs.declared.Entry.{Entry}
 use Rattle.blink_batch.specs.{pointer_of}
+use Rattle.blink_live.specs.declared.view.Change.{Change}
 use Rattle.blink_live.specs.{after, made_at}
 use Rattle.blink_map.specs.declared.map.Map.{Map}
 use Rattle.blink_map.specs.{IsSameMember, IsSessionOf, made_by, opening_of as opening_of_map, place_of, places_of as places_of_map, seen_by}
@@ -17,7 +18,7 @@ use Rattle.blink_grow.specs.declared.slots.Current.{Current}
 use Rattle.blink_grow.specs.declared.slots.Generation.{Generation}
 use Rattle.blink_grow.specs.declared.slots.Known.{Known}
 use Rattle.blink_grow.specs.declared.slots.SlotView.{SlotView}
-use Rattle.blink_grow.specs.Laid.{AreOthersIn, IsFirstIn}
+use Rattle.blink_grow.specs.Laid.{AreOthersIn, IsFirstIn, slot_behind}
 use Rattle.blink_grow.specs.Rule.{Account, IsContinued, IsCurrentAt, IsGeneration, known_of}
 use Rattle.blink_grow.specs.Sessions.{opening_of, places_of}
 
@@ -33,6 +34,7 @@ pub record MaySeeMore (old new : Current) : Type 0 where
   pub saw : IsPrefix (seen_by old.session) (seen_by new.session)
   pub made : made_by new.session ≡ made_by old.session
   pub same_member : IsSameMember old.session.member new.session.member
+  pub same_changes : new.changes ≡ old.changes
 
 -- the others are sessions of the map of this one
 abbrev pub AreOfOneMap : Current → List Current → Type 0
@@ -51,20 +53,20 @@ HaveSeenOwn lead others = (k : ℕ) (held : Current) → get_elem? others k ≡ 
 
 -- ---- the slots that a renewal has taken
 
--- the slot is the next of those taken, and this session goes on from what was known there, with no change more
-pub record IsTakenFor (now : Generation) (taken : List Account) (slot : ℕ) (held : Current) : Type 0 where
+-- the slot is this one of those taken, and this session goes on from what was known there, with no change more
+pub record IsTakenFor (now : Generation) (taken : List Account) (level slot : ℕ) (held : Current) : Type 0 where
   pub known : Known
-  pub there : get_elem? taken slot ≡ some (slot, known)
+  pub there : get_elem? taken level ≡ some (slot, known)
   pub its : IsCurrentAt now slot held
   pub is : IsContinued known (known_of now.past slot held)
 
--- so many of the first slots, which are empty, from the last one down
-abbrev pub first_slots : ℕ → List (ℕ × Option Current)
-first_slots zero = []
-first_slots (suc count) = (count, None) ∷ first_slots count
+-- the copier's slot and so many of the others, which are empty, from the last one down
+abbrev pub slots_out : ℕ → ℕ → List (ℕ × Option Current)
+slots_out copier zero = (copier, None) ∷ []
+slots_out copier (suc count) = (slot_behind copier count, None) ∷ slots_out copier count
 
--- the seat has taken the first slots of the map, for these sessions of its current map
-pub record IsRenewing (map : GrowingMap) (seat : Seat (Option Current) SlotView) (lead : Current) (others : List Current) : Type 0 where
+-- the seat has taken the copier's slot and then so many of the others, for these sessions of the current map
+pub record IsRenewing (map : GrowingMap) (seat : Seat (Option Current) SlotView) (copier : ℕ) (lead : Current) (others : List Current) : Type 0 where
   pub now : Generation
   pub same_table : seat.table_id ≡ map.table.shared.table_id
   pub same_first : seat.me.0.first ≡ opening_of map
@@ -73,10 +75,11 @@ pub record IsRenewing (map : GrowingMap) (seat : Seat (Option Current) SlotView)
   pub is_now : seat.me.0.now ≡ Some now
   pub is_generation : IsGeneration (opening_of map) (places_of map) now
   pub width : length seat.me.0.taken ≡ suc (length others)
+  pub in_range : copier < places_of map
   pub inside : length others < places_of map
-  pub first_one : IsTakenFor now seat.me.0.taken 0 lead
-  pub each : (k : ℕ) (held : Current) → get_elem? others k ≡ some held → IsTakenFor now seat.me.0.taken (suc k) held
-  pub out : seat.me.1 ≡ first_slots (suc (length others))
+  pub first_one : IsTakenFor now seat.me.0.taken 0 copier lead
+  pub each : (k : ℕ) (held : Current) → get_elem? others k ≡ some held → IsTakenFor now seat.me.0.taken (suc k) (slot_behind copier k) held
+  pub out : seat.me.1 ≡ slots_out copier (length others)
 
 -- ---- the next map
 
@@ -84,18 +87,37 @@ pub record IsRenewing (map : GrowingMap) (seat : Seat (Option Current) SlotView)
 abbrev pub AreEntriesSeen : Current → List Entry → Type 0
 AreEntriesSeen lead entries = (key : ℕ) → key < 2 ^ 64 → pointer_of entries key ≡ after (pointer_of (opening_of_map (arc_value lead.map))) (seen_by lead.session) key
 
--- the seat has taken all slots of the map for these sessions. The first has seen what all have seen, and these are the entries then
-pub record IsCopied (map : GrowingMap) (seat : Seat (Option Current) SlotView) (lead : Current) (others : List Current) (entries : List Entry) : Type 0 where
-  pub renewing : IsRenewing map seat lead others
+-- the seat has taken all slots of the map for these sessions. The first has seen what all have seen, and these are the entries then: so it
+-- is known once the others have been told
+pub record IsCopied (map : GrowingMap) (seat : Seat (Option Current) SlotView) (copier : ℕ) (lead : Current) (others : List Current) (entries : List Entry) : Type 0 where
+  pub renewing : IsRenewing map seat copier lead others
   pub heard : HasHeardAll lead others
   pub all : suc (length others) ≡ places_of map
-  pub kept : AreEntriesSeen lead entries
+  pub kept : HaveSeenOwn lead others → AreEntriesSeen lead entries
 
--- these are the first sessions, one for each of so many places, of a map that was opened with the entries
-pub record AreNext (entries : List Entry) (slots : ℕ) (lead : Current) (others : List Current) : Type 0 where
+-- these are the first sessions, one for each of so many places, of a map that was opened with the entries: the one of the copier's place,
+-- and the others
+pub record AreNext (entries : List Entry) (slots copier : ℕ) (lead : Current) (others : List Current) : Type 0 where
   pub map : Map
   pub opened : opening_of_map map ≡ entries
   pub places : places_of_map map ≡ slots
   pub width : suc (length others) ≡ slots
-  pub first_one : IsFirstIn map 0 lead
-  pub each : AreOthersIn map others
+  pub first_one : IsFirstIn map copier lead
+  pub each : AreOthersIn map copier others
+
+-- ---- whether a change was made while the copier made its copy
+
+-- the sum of the first values
+abbrev pub sum_of : ℕ → (ℕ → ℕ) → ℕ
+sum_of zero f = 0
+sum_of (suc count) f = f 0 + sum_of count (λ (k : ℕ). f (suc k))
+
+-- how many of the changes were made at the slot at this place behind the copier's
+abbrev pub made_behind : ℕ → List Change → ℕ → ℕ
+made_behind copier seen k = length (made_at (slot_behind copier k) seen)
+
+-- so many changes were counted of all sessions but the copier's, which has seen as many of theirs, unless they are too many to be counted
+pub record IsNoted (slots copier : ℕ) (lead : Current) (noted : ℕ) : Type 0 where
+  pub count : ℕ
+  pub width : suc count ≡ slots
+  pub saw : noted + 1 < 2 ^ 64 → noted ≤ sum_of count (made_behind copier (seen_by lead.session))

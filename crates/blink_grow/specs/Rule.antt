@@ -1,5 +1,5 @@
 -- The rule of the slots: in each free slot lies a session of the current map, which goes on from what all maps before it left.
-use Rattle.std.specs.Prelude.{◌≡◌, ◌≢◌, ℕ, zero, suc, ◌*◌, ◌<◌, ◌^◌, Option, Some, None, List, [], ◌∷◌, ◌++◌, length, slice_index}
+use Rattle.std.specs.Prelude.{◌≡◌, ◌≢◌, ℕ, zero, suc, ◌+◌, ◌*◌, ◌<◌, ◌^◌, Option, Some, None, List, [], ◌∷◌, ◌++◌, length, slice_index}
 use mathlib.Core.Option.{some}
 use mathlib.Core.List.{IsPrefix}
 use lib.ListN.{get_elem?}
@@ -41,11 +41,13 @@ pub record IsGeneration (first : List Entry) (slots : ℕ) (g : Generation) : Ty
   pub authors : HaveAuthors slots g.past
   pub places : places_of g.map ≡ slots
 
--- the session is that of the slot's place in this map, of which it has an owner
+-- the session is that of the slot's place in this map, of which it has an owner. It has made so many changes there as are counted, unless
+-- they are too many to be counted
 pub record IsCurrentAt (g : Generation) (slot : ℕ) (held : Current) : Type 0 where
   pub same_map : arc_value held.map ≡ g.map
   pub its_own : IsSessionOf g.map held.session
   pub its_place : place_of held.session ≡ slot
+  pub counted : held.changes + 1 < 2 ^ 64 → length (made_by held.session) ≡ held.changes
 
 -- what the session has seen and made in this map, behind what was seen and made at its slot in all maps before
 abbrev pub known_of : List Change → ℕ → Current → Known

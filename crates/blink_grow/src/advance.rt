@@ -3,6 +3,7 @@ ghost use Rattle.std.specs.Prelude.{IfErr, IfOk};
 ghost use Rattle.blink_grow.specs.Holding.{IsAnsweredHeld};
 ghost use Rattle.blink_grow.specs.Pendings.{GoesOn, IsPendingOf, held_of, op_of};
 
+use crate::counts::counted;
 use crate::growing::GrowingMap;
 use crate::held::{Held, PendingHeld};
 use crate::slots::Current;
@@ -41,6 +42,7 @@ impl GrowingMap {
             slot,
             map,
             number,
+            changes,
             now,
             begun,
         } = pending;
@@ -50,6 +52,7 @@ impl GrowingMap {
                     map,
                     session,
                     number,
+                    changes: counted(changes, answer),
                 };
                 let held = Held {
                     seat,
@@ -63,6 +66,7 @@ impl GrowingMap {
                 slot,
                 map,
                 number,
+                changes,
                 now,
                 begun,
             }),

@@ -10,9 +10,10 @@ ghost use Rattle.blink_grow.specs.Taking.{CanGiveBack, HasTakenSlot};
 
 use crate::growing::GrowingMap;
 use crate::slots::{Current, Enter, Give, SLOT_WORDS, SlotView, Switch, Take};
+use crate::waiting::Patience;
 use atomic_table::Seat;
 use std::sync::Wait;
-use std::sync::atomic::Ordering;
+use std::sync::atomic::{AtomicBool, Ordering};
 use std::{hint, thread};
 
 // The word of a slot in which a session lies, and of one that is taken.
@@ -54,7 +55,7 @@ impl GrowingMap {
         found == FREE
     }
 
-    // Takes a slot, waits for it, and leaves the session in it. It lets a renewal go first, which wants the session too.
+    // Takes a slot for a search, waits for it, and leaves the session in it. It lets a renewal that gathers the sessions go first.
     pub(crate) fn take_slot<R: Wait>(
         &self,
         rt: &R,
@@ -67,7 +68,7 @@ impl GrowingMap {
         ensures same { seat.new.table_id ≡ seat.old.table_id }
         ensures taken { HasTakenSlot slot seat.old.me seat.new.me }
     {
-        self.wait_for_renewal(rt);
+        self.wait_for_gathering(rt);
         for _ in rt.forever() {
             if self.try_take_slot(seat, slot) {
                 return;
@@ -77,10 +78,11 @@ impl GrowingMap {
         unreachable!()
     }
 
-    // Takes a slot, and leaves the session in it. It looks `tries` times, at least once, and lets a renewal that has begun go first.
-    // Returns whether it has taken the slot.
-    pub(crate) fn take_slot_unless_renewed(
+    // Takes a slot, and leaves the session in it. It looks `tries` times, at least once, and lets a renewal go first that has set this word: all
+    // of it, or its gathering. Returns whether it has taken the slot.
+    pub(crate) fn take_slot_unless(
         &self,
+        renewal: &AtomicBool,
         seat: &mut Seat<Option<Current>, SlotView>,
         slot: usize,
         tries: u32,
@@ -93,7 +95,7 @@ impl GrowingMap {
         ensures lost { IsFalse result → seat.new.me ≡ seat.old.me }
     {
         for _ in 0..tries.max(1) {
-            if !self.renewing.load(Ordering::SeqCst) && self.try_take_slot(seat, slot) {
+            if !renewal.load(Ordering::SeqCst) && self.try_take_slot(seat, slot) {
                 return true;
             }
             hint::spin_loop();
@@ -139,8 +141,35 @@ impl GrowingMap {
         }
     }
 
-    // Takes the session out of a slot, and waits for it. It lets a renewal go first, which wants the session too.
+    // Takes the session out of a slot for a search, and waits for it. It lets a renewal that gathers the sessions go first.
     pub(crate) fn take<R: Wait>(
+        &self,
+        rt: &R,
+        seat: &mut Seat<Option<Current>, SlotView>,
+        slot: usize,
+    ) -> Current
+        requires its_own { seat.old.table_id ≡ self.now.table.shared.table_id }
+        requires in_range { slot < seat.old.table_id.slots }
+        requires some_slot { 0 < seat.old.me.0.slots }
+        ensures same { seat.new.table_id ≡ seat.old.table_id }
+        ensures taken { Taken slot result None seat.old.me seat.new.me }
+    {
+        self.wait_for_gathering(rt);
+        self.take_at_once(rt, seat, slot)
+    }
+
+    // Waits while a renewal gathers the sessions.
+    fn wait_for_gathering<R: Wait>(&self, rt: &R) {
+        for _ in rt.forever() {
+            if !self.gathering.load(Ordering::SeqCst) {
+                return;
+            }
+            thread::yield_now();
+        }
+    }
+
+    // Takes the session out of a slot for a change, or to hold it, and waits for it. It lets a renewal go first.
+    pub(crate) fn take_to_change<R: Wait>(
         &self,
         rt: &R,
         seat: &mut Seat<Option<Current>, SlotView>,
@@ -209,6 +238,29 @@ impl GrowingMap {
             hint::spin_loop();
         }
         None
+    }
+
+    // Takes the session out of a slot; `None`, if it wasn't there in so many tries.
+    pub(crate) fn take_patiently(
+        &self,
+        seat: &mut Seat<Option<Current>, SlotView>,
+        slot: usize,
+        patience: Patience,
+    ) -> Option<Current>
+        requires its_own { seat.old.table_id ≡ self.now.table.shared.table_id }
+        requires in_range { slot < seat.old.table_id.slots }
+        requires some_slot { 0 < seat.old.me.0.slots }
+        ensures same { seat.new.table_id ≡ seat.old.table_id }
+        ensures taken { IfSome result (λ held. Taken slot held None seat.old.me seat.new.me) }
+        ensures lost { IfNone result (seat.new.me ≡ seat.old.me) }
+    {
+        for _ in 1..patience.tries {
+            if let Some(held) = self.take_within(seat, slot, patience.looks) {
+                return Some(held);
+            }
+            hint::spin_loop();
+        }
+        self.take_within(seat, slot, patience.looks)
     }
 
     // Lays a session into the slot that the seat took last, and gives the slot back.

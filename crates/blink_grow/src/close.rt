@@ -11,7 +11,7 @@ use crate::error::GrowError;
 use crate::gather::tell_all;
 use crate::growing::{GrowingMap, Session, Unclosed};
 use crate::slots::{Compare, Current, PutTogether, SlotView};
-use crate::waiting::CLOSE_LOOKS;
+use crate::waiting::CLOSE;
 use atomic_table::Seat;
 use blink_index::Index;
 use std::alloc::Global;
@@ -53,11 +53,11 @@ impl GrowingMap {
             mut seat,
             lead,
             others,
-        } = match self.begin(alloc, CLOSE_LOOKS) {
+        } = match self.begin(alloc, 0, CLOSE) {
             Ok(begun) => begun,
             Err(refusal) => return Err(refusal),
         };
-        match self.copy(alloc, &mut seat, lead, others, CLOSE_LOOKS) {
+        match self.copy(alloc, &mut seat, lead, others, CLOSE) {
             Ok(copied) => {
                 let Copied {
                     mut lead,

@@ -13,8 +13,8 @@ const NO_ENTRY: Entry = Entry { key: 0, pointer: 0 };
 
 impl GrowingMap {
     /// Returns the entry with the least key, as a [`scan`](GrowingMap::scan) of all keys into one place reports it; `None` if that
-    /// reports none. The call takes no memory, and waits while the map is renewed. It reads one page for each level, and then the leaves
-    /// up to the first that has an entry.
+    /// reports none. The call takes no memory, and waits as a scan does. It reads one page for each level, and then the leaves up to
+    /// the first that has an entry.
     pub fn first<R: Wait>(&self, rt: &R, session: &mut Session) -> Option<Entry>
         requires its_own { IsSessionOf self.now session.old }
         ensures found { IsFirstFrom (opening_of self.now)
@@ -51,8 +51,8 @@ impl GrowingMap {
     }
 
     /// Returns the entry with the greatest key, as a [`scan_back`](GrowingMap::scan_back) of all keys into one place reports it; `None`
-    /// if that reports none. The call takes no memory, and waits while the map is renewed. It reads one page for each level, and as many
-    /// again for each emptied leaf that stands to the right of that entry.
+    /// if that reports none. The call takes no memory, and waits as a scan does. It reads one page for each level, and as many again for
+    /// each emptied leaf that stands to the right of that entry.
     pub fn last<R: Wait>(&self, rt: &R, session: &mut Session) -> Option<Entry>
         requires its_own { IsSessionOf self.now session.old }
         ensures found { IsLastTo (opening_of self.now)

@@ -1,34 +1,40 @@
 //! How a renewal takes the sessions of all slots, and how it gives the slots back.
-ghost use Rattle.std.specs.Prelude.{◌≡◌, ◌≤◌, [], suc, IsTrue, length, vec_capacity};
+ghost use Rattle.std.specs.Prelude.{◌≡◌, ◌≤◌, ◌-◌, [], suc, IsTrue, length, vec_capacity};
 ghost use mathlib.Core.List.{IsPrefix};
 ghost use Rattle.std.specs.Arc.{arc_value};
 ghost use Rattle.blink_map.specs.{IsSessionOf, seen_by};
+ghost use Rattle.blink_grow.specs.Laid.{slot_behind};
 ghost use Rattle.blink_grow.specs.Sessions.{places_of};
 ghost use Rattle.blink_grow.specs.Renewing.{AreOfOneMap, HasHeardAll, HasSeenOwn, HaveSeenOwn, IsRenewing, MaySeeMore};
 
 use crate::growing::GrowingMap;
 use crate::slots::{Current, SlotView};
+use crate::waiting::Patience;
 use atomic_table::Seat;
 
 impl GrowingMap {
-    // Takes the sessions of all slots behind the first, each as soon as no call has it, and tells the first slot's session what they
-    // have seen. Returns whether it has them all: a session that no look finds in its slot is held up in a call.
+    // Takes the sessions of all slots but the copier's, each as soon as no call has it, and tells the copier's session what they have
+    // seen. Returns whether it has them all: a session that no look finds in its slot is held up in a call.
     pub(crate) fn gather(
         &self,
         seat: &mut Seat<Option<Current>, SlotView>,
+        copier: usize,
         lead: &mut Current,
         others: &mut Vec<Current>,
-        looks: u32,
+        patience: Patience,
     ) -> bool
-        requires renewing { IsRenewing self.now seat.old lead.old others.old.items }
+        requires renewing { IsRenewing self.now seat.old copier lead.old others.old.items }
         requires alone { others.old.items ≡ [] }
         requires room { places_of self.now ≤ suc (vec_capacity others.old) }
-        ensures renewing { IsRenewing self.now seat.new lead.new others.new.items }
+        ensures renewing { IsRenewing self.now seat.new copier lead.new others.new.items }
         ensures heard { HasHeardAll lead.new others.new.items }
+        ensures more { MaySeeMore lead.old lead.new }
         ensures all { IsTrue result → suc (length others.new.items) ≡ places_of self.now }
+        ensures room { places_of self.now ≤ suc (vec_capacity others.new) }
     {
-        for slot in 1..self.table.slot_count() {
-            let Some(held) = self.take_within(seat, slot, looks) else {
+        for level in 1..self.table.slot_count() {
+            let slot = slot_at(copier, level);
+            let Some(held) = self.take_patiently(seat, slot, patience) else {
                 return false;
             };
             let told = hear(lead, held);
@@ -41,17 +47,42 @@ impl GrowingMap {
     pub(crate) fn give_all(
         &self,
         seat: &mut Seat<Option<Current>, SlotView>,
+        copier: usize,
         lead: Current,
         mut others: Vec<Current>,
     )
-        requires renewing { IsRenewing self.now seat.old lead others.items }
+        requires renewing { IsRenewing self.now seat.old copier lead others.items }
+    {
+        self.give_others(seat, copier, &lead, &mut others);
+        self.give(seat, copier, lead);
+    }
+
+    // Gives the slots back but the copier's, whose session this is.
+    pub(crate) fn give_others(
+        &self,
+        seat: &mut Seat<Option<Current>, SlotView>,
+        copier: usize,
+        _lead: &Current,
+        others: &mut Vec<Current>,
+    )
+        requires renewing { IsRenewing self.now seat.old copier _lead.now others.old.items }
+        ensures renewing { IsRenewing self.now seat.new copier _lead.now [] }
+        ensures none { others.new.items ≡ [] }
+        ensures room { vec_capacity others.new ≡ vec_capacity others.old }
     {
         while let Some(held) = others.pop() {
-            let slot = others.len() + 1;
+            let slot = slot_at(copier, others.len() + 1);
             self.give(seat, slot, held);
         }
-        self.give(seat, 0, lead);
     }
+}
+
+// The slot that a renewal takes after so many others, at least the copier's: it takes that first, and then the others in their order.
+pub(crate) fn slot_at(copier: usize, level: usize) -> usize
+    requires behind { 1 ≤ level }
+    ensures { result ≡ slot_behind copier (level - 1) }
+{
+    if level <= copier { level - 1 } else { level }
 }
 
 // Tells the session what another one of its map has seen, and returns that one.
@@ -66,6 +97,7 @@ pub(crate) fn hear(lead: &mut Current, mut held: Current) -> Current
         map,
         session,
         number: _,
+        changes: _,
     } = lead;
     map.tell(&mut held.session, session);
     held
@@ -98,6 +130,7 @@ fn tell(lead: &mut Current, mut held: Current)
         map,
         session,
         number: _,
+        changes: _,
     } = lead;
     map.tell(session, &mut held.session);
 }

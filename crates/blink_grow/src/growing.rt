@@ -11,14 +11,18 @@ use std::alloc::Global;
 use std::sync::atomic::{AtomicBool, AtomicU64};
 
 /// A map from `u64` to `u64` which grows. It is one map of `blink_map` after another: where the current one is full, its entries are
-/// packed, and another map is opened over them with more room. All calls wait meanwhile.
+/// packed, and another map is opened over them with more room. Changes wait meanwhile. Searches go on, and wait only while the sessions
+/// are gathered, before the entries are copied and after: that takes microseconds, unless a session is in a long call. One session is
+/// with the renewal until the next map is there, and its searches wait too: that of the thread which renews, or the first one.
 #[derive(Drop)]
 pub struct GrowingMap {
     pub(crate) table: Table<Option<Current>, SlotView, Origin, RuleOfSlots, Global>,
     pub(crate) fan: u8,
-    // Whether somebody renews the map. Renewals are one after another by it, and a renewal gets the sessions before the next calls do.
-    // No proof needs it.
+    // Whether somebody renews the map. Renewals are one after another by it, and changes wait for them. No proof needs it: a renewal
+    // counts the changes, and copies again where one was made.
     pub(crate) renewing: AtomicBool,
+    // Whether a renewal gathers the sessions. It gets them before the next calls do, since searches wait too. No proof needs it.
+    pub(crate) gathering: AtomicBool,
     // About how many entries the map has had since it was opened or renewed last, with a few more for each session, and how many of them
     // were removed. No proof needs them.
     pub(crate) had: AtomicU64,

@@ -32,6 +32,7 @@ pub struct PendingHeld {
     pub(crate) slot: usize,
     pub(crate) map: Arc<Map>,
     pub(crate) number: u64,
+    pub(crate) changes: u64,
     pub(crate) now: Pending,
     // The held session before the operation.
     pub(crate) begun: Snapshot<Held>,

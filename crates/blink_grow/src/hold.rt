@@ -16,7 +16,7 @@ impl GrowingMap {
         ensures held { IsHeldFrom session result }
     {
         let Session { mut seat, slot } = session;
-        let current = self.take(rt, &mut seat, slot);
+        let current = self.take_to_change(rt, &mut seat, slot);
         Held {
             seat,
             slot,
@@ -35,7 +35,7 @@ impl GrowingMap {
         ensures same { IfErr result (IsSameSession session) }
     {
         let Session { mut seat, slot } = session;
-        if !self.take_slot_unless_renewed(&mut seat, slot, tries) {
+        if !self.take_slot_unless(&self.renewing, &mut seat, slot, tries) {
             return Err(Session { seat, slot });
         }
         let current = self.take_out(&mut seat, slot);

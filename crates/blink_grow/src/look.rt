@@ -30,6 +30,7 @@ impl GrowingMap {
             map,
             session,
             number: _,
+            changes: _,
         } = current;
         map.find(session, key)
     }
@@ -53,6 +54,7 @@ impl GrowingMap {
             map,
             session,
             number: _,
+            changes: _,
         } = current;
         map.find_all(session, keys, answers);
     }
@@ -77,6 +79,7 @@ impl GrowingMap {
             map,
             session,
             number: _,
+            changes: _,
         } = current;
         map.scan(session, lo, hi, into)
     }
@@ -101,6 +104,7 @@ impl GrowingMap {
             map,
             session,
             number: _,
+            changes: _,
         } = current;
         map.scan_back(session, lo, hi, into)
     }
@@ -130,6 +134,7 @@ impl GrowingMap {
             map,
             session,
             number: _,
+            changes: _,
         } = current;
         map.snapshot(alloc, session, lo, hi, tries)
     }

@@ -1,5 +1,5 @@
 //! The next map: the entries of the current one in an index, and a map over it with more room.
-ghost use Rattle.std.specs.Prelude.{◌≡◌, ◌≤◌, suc, IfErr, IfOk, length};
+ghost use Rattle.std.specs.Prelude.{◌≡◌, ◌<◌, ◌≤◌, suc, IfErr, IfOk, length};
 ghost use Rattle.std.specs.Arc.{arc_value};
 ghost use Rattle.blink_index.specs.{map_of};
 ghost use Rattle.blink_page.specs.{IsFan};
@@ -16,8 +16,8 @@ use blink_map::{Map, MapError, Session};
 use std::alloc::{AllocError, Global};
 use std::sync::Arc;
 
-// An index of all entries of the session's map, in as few pages as they need. All that anybody has changed there the session has to have
-// seen, and nobody changes the map meanwhile.
+// An index of all entries of the session's map, in as few pages as they need, as all that the session has seen by then leaves them. `Busy`,
+// if somebody changed the map at each try.
 pub(crate) fn index_of(alloc: Global, fan: u8, lead: &mut Current) -> Result<Index, GrowError>
     requires its_own { IsSessionOf (arc_value lead.old.map) lead.old.session }
     requires fan { IsFan fan }
@@ -30,6 +30,7 @@ pub(crate) fn index_of(alloc: Global, fan: u8, lead: &mut Current) -> Result<Ind
         map,
         session,
         number: _,
+        changes: _,
     } = lead;
     let Ok(found) = map.snapshot(alloc, session, 0, u64::MAX, COPY_TRIES) else {
         return Err(GrowError::OutOfMemory);
@@ -44,16 +45,18 @@ pub(crate) fn index_of(alloc: Global, fan: u8, lead: &mut Current) -> Result<Ind
     }
 }
 
-// Opens a map over the index with so many sessions, and returns these with owners of the map: the first, and the others.
+// Opens a map over the index with so many sessions, and returns these with owners of the map: the one of the copier's place, and the others.
 pub(crate) fn open_next(
     alloc: Global,
     index: &Index,
     slots: u32,
+    copier: usize,
     number: u64,
 ) -> Result<(Current, Vec<Current>), GrowError>
     requires slots { slots ≤ 256 }
+    requires in_range { copier < slots }
     ensures next { IfOk result
-        (λ next. AreNext (map_of index.now) slots next.0 next.1.items) }
+        (λ next. AreNext (map_of index.now) slots copier next.0 next.1.items) }
     ensures refused { IfErr result IsRefusal }
 {
     let Some(room) = room_over(index.page_count(), slots) else {
@@ -67,26 +70,27 @@ pub(crate) fn open_next(
     let Ok(map) = Arc::new(alloc, map) else {
         return Err(GrowError::OutOfMemory);
     };
-    match hold(alloc, &map, sessions, number) {
+    match hold(alloc, &map, sessions, copier, number) {
         Ok(held) => Ok(held),
         Err(_) => Err(GrowError::OutOfMemory),
     }
 }
 
-// The sessions of a map, each with an owner of it: the first, and the others.
+// The sessions of a map, each with an owner of it: the one of the copier's place, and the others.
 fn hold(
     alloc: Global,
     map: &Arc<Map>,
     mut sessions: Vec<Session>,
+    copier: usize,
     number: u64,
 ) -> Result<(Current, Vec<Current>), AllocError>
     requires first { AreFirst (arc_value map.now) sessions.items }
-    requires some { 1 ≤ length sessions.items }
-    ensures first { IfOk result (λ held. IsFirstIn (arc_value map.now) 0 held.0) }
-    ensures others { IfOk result (λ held. AreOthersIn (arc_value map.now) held.1.items) }
+    requires in_range { copier < length sessions.items }
+    ensures first { IfOk result (λ held. IsFirstIn (arc_value map.now) copier held.0) }
+    ensures others { IfOk result (λ held. AreOthersIn (arc_value map.now) copier held.1.items) }
     ensures width { IfOk result (λ held. suc (length held.1.items) ≡ length sessions.items) }
 {
-    let first = sessions.remove(0);
+    let first = sessions.remove(copier);
     let lead = hold_one(map, first, number)?;
     let count = sessions.len();
     let mut others = Vec::with_capacity(alloc, count)?;
@@ -102,11 +106,13 @@ fn hold(
 fn hold_one(map: &Arc<Map>, session: Session, number: u64) -> Result<Current, AllocError>
     ensures map { IfOk result (λ held. arc_value held.map ≡ arc_value map.now) }
     ensures session { IfOk result (λ held. held.session ≡ session) }
+    ensures none_counted { IfOk result (λ held. held.changes ≡ 0) }
 {
     let owner = Arc::try_clone(map)?;
     Ok(Current {
         map: owner,
         session,
         number,
+        changes: 0,
     })
 }

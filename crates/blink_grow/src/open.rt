@@ -131,6 +131,7 @@ fn table_of(
                 table,
                 fan: index.rest().store().fan(),
                 renewing: AtomicBool::new(false),
+                gathering: AtomicBool::new(false),
                 had: AtomicU64::new(had_at_first(index.len(), count)),
                 removed: AtomicU64::new(0),
                 numbers: AtomicU64::new(numbers),
@@ -159,6 +160,7 @@ fn lay(
             map: owner,
             session,
             number: 0,
+            changes: 0,
         };
         lay_one(&mut slots, held)?;
     }

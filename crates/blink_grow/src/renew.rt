@@ -1,21 +1,23 @@
-//! Renewing a growing map: all its sessions are gathered, the entries are copied into the next map with more room, and a session of that
-//! map is put into each slot.
-ghost use Rattle.std.specs.Prelude.{IfErr, IfSome};
+//! Renewing a growing map: all its sessions are gathered, and given back but for one of them, which copies the entries into the next map with
+//! more room. Then they are gathered again, and a session of the next map is put into each slot.
+ghost use Rattle.std.specs.Prelude.{◌<◌, IfErr, IfSome};
 ghost use Rattle.blink_index.specs.{map_of};
-ghost use Rattle.blink_grow.specs.Renewing.{IsCopied, IsRefusal};
+ghost use Rattle.blink_grow.specs.Renewing.{AreNext, IsCopied, IsRefusal};
+ghost use Rattle.blink_grow.specs.Sessions.{IsSessionOf, places_of};
 
-use crate::copy::{Begun, Copied};
+use crate::copy::Begun;
 use crate::error::GrowError;
 use crate::gather::tell_all;
-use crate::growing::GrowingMap;
-use crate::next::open_next;
+use crate::growing::{GrowingMap, Session};
+use crate::prepare::Prepared;
 use crate::slots::{Current, SlotView};
-use crate::waiting::{RENEWAL_LOOKS, RENEWAL_TRIES};
+use crate::waiting::{GRACE, Patience, RENEWAL};
 use atomic_table::Seat;
+use blink_index::Index;
 use std::alloc::Global;
+use std::hint;
 use std::sync::Wait;
 use std::sync::atomic::Ordering;
-use std::{hint, thread};
 
 /// Why the map is renewed.
 #[derive(Clone, Copy)]
@@ -28,10 +30,15 @@ pub(crate) enum Reason {
     Worn,
 }
 
+// What is left of the map that was renewed: the last owner of it, and the index of its entries. It takes long to drop them.
+pub(crate) type Left = (Current, Index);
+
 impl GrowingMap {
     /// Renews the map: its entries are packed into another map, with new room for changes. The map does so by itself where a change
-    /// finds no room. Who calls it in good time, from a thread of his own, spares other threads the renewal, and not the pause: all
-    /// calls wait while the map is renewed, searches too. Where another thread renews the map already, the call waits for it.
+    /// finds no room. Who calls it in good time, from a thread of his own, spares other threads the renewal, and not the pause: changes
+    /// wait while the map is renewed. Searches wait only while the sessions are gathered, before the entries are copied and after, but
+    /// for those of the session of the first place, by which they are copied. Where another thread renews the map already, the call
+    /// waits for it.
     ///
     /// The call refuses with `Busy`, if a session is held up in the midst of a call, so that a million looks didn't find it in its slot;
     /// with `TooLarge`, if the entries leave too few of the 1,048,575 page numbers; and with `OutOfMemory`, if memory was refused. Then
@@ -39,12 +46,13 @@ impl GrowingMap {
     pub fn renew<R: Wait>(&self, rt: &R, alloc: Global) -> Result<(), GrowError>
         ensures refused { IfErr result IsRefusal }
     {
-        self.renew_once(rt, alloc, Reason::Asked)
+        self.renew_once(rt, alloc, 0, Reason::Asked)
     }
 
-    /// Renews the map as `renew` does, and waits for nobody. It looks `looks` times for each session that is in a call, or held. Where
-    /// `full` is the number of the map that was found full (`Held::number`), and the map has been renewed since, it does nothing. It
-    /// takes the time of a copy of all entries.
+    /// Renews the map as `renew` does, and waits for nobody before it copies. It looks `looks` times for each session that is in a call,
+    /// or held. Where `full` is the number of the map that was found full (`Held::number`), and the map has been renewed since, it does
+    /// nothing. It takes the time of a copy of all entries. Once they are copied it looks a million times for each session that is in a
+    /// search, and copies them once more, while all calls wait, if a change was made meanwhile.
     ///
     /// The call refuses with `Busy`, if a session was in a call, or held, at each look, or another thread was renewing the map at each
     /// look; with `TooLarge`, if the entries leave too few of the 1,048,575 page numbers; and with `OutOfMemory`, if memory was
@@ -52,64 +60,80 @@ impl GrowingMap {
     pub fn try_renew(&self, alloc: Global, full: Option<u64>, looks: u32) -> Result<(), GrowError>
         ensures refused { IfErr result IsRefusal }
     {
+        self.try_renew_at(alloc, 0, full, looks)
+    }
+
+    /// Renews the map as `try_renew` does, by this session: the entries are copied by it, and not by that of the first place. So no search
+    /// of another session waits for the copy. The session stays as it is.
+    pub fn try_renew_by(
+        &self,
+        alloc: Global,
+        session: &Session,
+        full: Option<u64>,
+        looks: u32,
+    ) -> Result<(), GrowError>
+        requires its_own { IsSessionOf self.now session.now }
+        ensures refused { IfErr result IsRefusal }
+    {
+        self.try_renew_at(alloc, session.slot, full, looks)
+    }
+
+    // Does so by the session in this slot.
+    fn try_renew_at(
+        &self,
+        alloc: Global,
+        copier: usize,
+        full: Option<u64>,
+        looks: u32,
+    ) -> Result<(), GrowError>
+        requires in_range { copier < places_of self.now }
+        ensures refused { IfErr result IsRefusal }
+    {
         let reason = match full {
             Some(number) => Reason::Full(number),
             None => Reason::Asked,
         };
-        match self.renew_unless_busy(alloc, reason, looks) {
+        match self.renew_unless_busy(alloc, copier, reason, looks) {
             Some(outcome) => outcome,
             None if self.is_renewed_within(looks) => Ok(()),
             None => Err(GrowError::Busy),
         }
     }
 
-    // Renews the map, unless another thread does so, or it needn't be renewed any more.
+    // Renews the map by the session in this slot, unless another thread does so, or it needn't be renewed any more.
     pub(crate) fn renew_once<R: Wait>(
         &self,
         rt: &R,
         alloc: Global,
+        copier: usize,
         reason: Reason,
     ) -> Result<(), GrowError>
+        requires in_range { copier < places_of self.now }
         ensures refused { IfErr result IsRefusal }
     {
         if self.renewing.swap(true, Ordering::SeqCst) {
             self.wait_for_renewal(rt);
             return Ok(());
         }
-        let outcome = self.renew_patiently(alloc, reason);
-        self.renewing.store(false, Ordering::SeqCst);
-        outcome
-    }
-
-    // Tries so often to renew the map, and gives way to other threads between two tries, so that who is held up in a call goes on. No call
-    // begins meanwhile.
-    fn renew_patiently(&self, alloc: Global, reason: Reason) -> Result<(), GrowError>
-        ensures refused { IfErr result IsRefusal }
-    {
-        for _ in 0..RENEWAL_TRIES {
-            match self.renew_alone(alloc, reason, RENEWAL_LOOKS) {
-                Err(GrowError::Busy) => thread::yield_now(),
-                outcome => return outcome,
-            }
-        }
-        Err(GrowError::Busy)
+        self.renew_alone(alloc, copier, reason, RENEWAL)
     }
 
     // Renews the map, unless it needn't be renewed any more. `None`, if another thread renews it.
     pub(crate) fn renew_unless_busy(
         &self,
         alloc: Global,
+        copier: usize,
         reason: Reason,
         looks: u32,
     ) -> Option<Result<(), GrowError>>
+        requires in_range { copier < places_of self.now }
         ensures refused { IfSome result (λ outcome. IfErr outcome IsRefusal) }
     {
         if self.renewing.swap(true, Ordering::SeqCst) {
             return None;
         }
-        let outcome = self.renew_alone(alloc, reason, looks);
-        self.renewing.store(false, Ordering::SeqCst);
-        Some(outcome)
+        let patience = Patience { tries: 1, looks };
+        Some(self.renew_alone(alloc, copier, reason, patience))
     }
 
     // Returns whether nobody renews the map at one of so many looks.
@@ -123,15 +147,46 @@ impl GrowingMap {
         false
     }
 
+    // Renews the map, and lets the calls go on. What is left of the old map is dropped only then.
+    fn renew_alone(
+        &self,
+        alloc: Global,
+        copier: usize,
+        reason: Reason,
+        patience: Patience,
+    ) -> Result<(), GrowError>
+        requires in_range { copier < places_of self.now }
+        ensures refused { IfErr result IsRefusal }
+    {
+        for _ in 0..GRACE {
+            hint::spin_loop();
+        }
+        self.gathering.store(true, Ordering::SeqCst);
+        let outcome = self.renew_by(alloc, copier, reason, patience);
+        self.gathering.store(false, Ordering::SeqCst);
+        self.renewing.store(false, Ordering::SeqCst);
+        match outcome {
+            Ok(_left) => Ok(()),
+            Err(refusal) => Err(refusal),
+        }
+    }
+
     // Renews the map, unless it was renewed since it was found full, or few of its leaves are empty.
-    fn renew_alone(&self, alloc: Global, reason: Reason, looks: u32) -> Result<(), GrowError>
+    fn renew_by(
+        &self,
+        alloc: Global,
+        copier: usize,
+        reason: Reason,
+        patience: Patience,
+    ) -> Result<Option<Left>, GrowError>
+        requires in_range { copier < places_of self.now }
         ensures refused { IfErr result IsRefusal }
     {
         let Begun {
             mut seat,
-            lead,
-            others,
-        } = match self.begin(alloc, looks) {
+            mut lead,
+            mut others,
+        } = match self.begin(alloc, copier, patience) {
             Ok(begun) => begun,
             Err(refusal) => return Err(refusal),
         };
@@ -141,43 +196,40 @@ impl GrowingMap {
             Reason::Worn => !self.is_worn(&lead.map),
         };
         if stays {
-            self.give_all(&mut seat, lead, others);
-            return Ok(());
+            self.give_all(&mut seat, copier, lead, others);
+            return Ok(None);
         }
-        match self.copy(alloc, &mut seat, lead, others, looks) {
-            Ok(copied) => self.go_over(alloc, &mut seat, copied),
-            Err(refusal) => Err(refusal),
-        }
-    }
-
-    // Opens the next map over the index that was made, and makes it the current one. Where it isn't opened, the sessions are put back.
-    fn go_over(
-        &self,
-        alloc: Global,
-        seat: &mut Seat<Option<Current>, SlotView>,
-        copied: Copied,
-    ) -> Result<(), GrowError>
-        requires copied { IsCopied self.now seat.old copied.lead copied.others.items (map_of copied.index) }
-        ensures refused { IfErr result IsRefusal }
-    {
-        let Copied {
-            mut lead,
-            others,
-            index,
-        } = copied;
-        let slots = self.table.slot_count() as u32;
-        match open_next(alloc, &index, slots, lead.number.wrapping_add(1)) {
-            Ok((next, next_others)) => {
-                tell_all(&mut lead, others);
-                let next = self.switch(seat, next);
-                self.give_all(seat, next, next_others);
-                self.begin_count(&index);
-                Ok(())
-            }
+        match self.copy_among(alloc, &mut seat, copier, &mut lead, &mut others, patience) {
+            Ok(prepared) => Ok(Some(self.go_over(&mut seat, copier, lead, others, prepared))),
             Err(refusal) => {
-                self.give_all(seat, lead, others);
+                self.give_all(&mut seat, copier, lead, others);
                 Err(refusal)
             }
         }
+    }
+
+    // Makes the next map, which was opened over the index of the entries, the current one.
+    pub(crate) fn go_over(
+        &self,
+        seat: &mut Seat<Option<Current>, SlotView>,
+        copier: usize,
+        mut lead: Current,
+        others: Vec<Current>,
+        prepared: Prepared,
+    ) -> Left
+        requires copied { IsCopied self.now seat.old copier lead others.items (map_of prepared.index) }
+        requires next { AreNext (map_of prepared.index) (places_of self.now) copier
+            prepared.next prepared.next_others.items }
+    {
+        let Prepared {
+            index,
+            next,
+            next_others,
+        } = prepared;
+        tell_all(&mut lead, others);
+        let next = self.switch(seat, next);
+        self.give_all(seat, copier, next, next_others);
+        self.begin_count(&index);
+        (lead, index)
     }
 }

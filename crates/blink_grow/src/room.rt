@@ -13,7 +13,11 @@ const ROWS_OF_SESSION: u32 = 128;
 // With fewer page numbers for each session no change could be sure of its own.
 const LEAST_OF_SESSION: u32 = 44;
 
-/// Three times as many page numbers as the entries have pages, and two rows for each; `None`, if too few numbers are left.
+// A session has at most so many rows for its changes, however many there are.
+const MOST_ROWS_OF_SESSION: u32 = 4_096;
+
+/// Three times as many page numbers as the entries have pages, a row for each, which its page keeps, and as many more for changes, or as
+/// many as all sessions may have; `None`, if too few numbers are left.
 pub(crate) fn room_over(pages: u32, sessions: u32) -> Option<Room>
     requires pages { pages ≤ MAX_PAGE }
     requires sessions { sessions ≤ 256 }
@@ -27,7 +31,7 @@ pub(crate) fn room_over(pages: u32, sessions: u32) -> Option<Room>
     let pages = (3 * pages).max(PAGES_OF_SESSION * sessions).min(left);
     Some(Room {
         pages,
-        rows: 2 * pages + ROWS_OF_SESSION * sessions,
+        rows: pages + pages.min(MOST_ROWS_OF_SESSION * sessions) + ROWS_OF_SESSION * sessions,
         sessions,
     })
 }

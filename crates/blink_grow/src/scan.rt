@@ -11,7 +11,7 @@ use std::sync::Wait;
 impl GrowingMap {
     /// Reports the entries whose keys are from `lo` to `hi`, both included, in ascending order, as `Map::scan` of `blink_map` does. What
     /// it says of a key is what the changes up to some time in the call leave of it, whatever maps they were made in. The call takes no
-    /// memory, and waits while the map is renewed.
+    /// memory. It waits only while a renewal gathers the sessions (`renew`).
     pub fn scan<R: Wait>(
         &self,
         rt: &R,

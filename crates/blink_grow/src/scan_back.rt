@@ -11,8 +11,8 @@ use std::sync::Wait;
 impl GrowingMap {
     /// Reports the entries whose keys are from `lo` to `hi`, both included, in descending order, as `Map::scan_back` of `blink_map` does.
     /// What it says of a key is what the changes up to some time in the call leave of it, whatever maps they were made in. The last `n`
-    /// entries up to a key are those of `scan_back(rt, session, 0, key, &mut into[..n])`. The call takes no memory, and waits while the
-    /// map is renewed.
+    /// entries up to a key are those of `scan_back(rt, session, 0, key, &mut into[..n])`. The call takes no memory. It waits only
+    /// while a renewal gathers the sessions (`renew`).
     pub fn scan_back<R: Wait>(
         &self,
         rt: &R,

@@ -13,12 +13,14 @@ use std::sync::Arc;
 /// The number of words in the line of a slot, as many as in a line of the processor's cache. The first is the slot's word.
 pub(crate) const SLOT_WORDS: usize = 8;
 
-/// A session of a map, with an owner of the map, and the map's number: how often there was a renewal before.
+/// A session of a map, with an owner of the map, and the map's number: how often there was a renewal before. The changes that the session
+/// has made in the map are counted, up to the greatest number of 64 bits, which says that they are too many.
 #[derive(Drop)]
 pub struct Current {
     pub map: Arc<Map>,
     pub session: Session,
     pub number: u64,
+    pub changes: u64,
 }
 
 /// The index that the first map was opened over, and the number of slots.

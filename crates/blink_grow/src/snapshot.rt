@@ -14,8 +14,9 @@ impl GrowingMap {
     /// these keys, whatever maps they were made in. `None` if that failed `tries` times, as some leaf of the range was changed each
     /// time.
     ///
-    /// The call waits while the map is renewed, and a renewal waits for the call. It takes memory for the entries, and while it runs 16
-    /// bytes for each leaf. If it is refused memory, nothing is changed, though the session may have seen more.
+    /// The call waits only while a renewal gathers the sessions (`renew`), and a renewal then waits for the call. It takes memory for the
+    /// entries, and while it runs 16 bytes for each leaf. If it is refused memory, nothing is changed, though the session may have seen
+    /// more.
     pub fn snapshot<R: Wait>(
         &self,
         rt: &R,

@@ -5,6 +5,7 @@ ghost use Rattle.blink_machine.specs.{IsUpdate};
 ghost use Rattle.blink_grow.specs.Holding.{IsAnsweredHeld, IsHeldOf};
 ghost use Rattle.blink_grow.specs.Pendings.{HasStopped};
 
+use crate::counts::counted;
 use crate::growing::GrowingMap;
 use crate::held::{Held, PendingHeld, StoppedHeld};
 use crate::slots::Current;
@@ -55,6 +56,7 @@ impl GrowingMap {
             map,
             session,
             number,
+            changes,
         } = current;
         match map.start(session, op, tries) {
             Ok((session, answer)) => {
@@ -62,6 +64,7 @@ impl GrowingMap {
                     map,
                     session,
                     number,
+                    changes: counted(changes, answer),
                 };
                 let held = Held {
                     seat,
@@ -75,6 +78,7 @@ impl GrowingMap {
                     map,
                     session,
                     number,
+                    changes,
                 };
                 Err(StoppedHeld::Full(Held {
                     seat,
@@ -87,6 +91,7 @@ impl GrowingMap {
                 slot,
                 map,
                 number,
+                changes,
                 now,
                 begun,
             })),

@@ -18,7 +18,7 @@ use std::sync::Wait;
 
 impl GrowingMap {
     /// Tells session `to` what session `from` has seen: after the call `to` has seen all that `from` had seen, whatever maps the changes
-    /// were made in. The call takes no memory, and waits while the map is renewed.
+    /// were made in. The call takes no memory. It waits only while a renewal gathers the sessions (`renew`).
     pub fn tell<R: Wait>(&self, rt: &R, from: &mut Session, to: &mut Session)
         requires from_its_own { IsSessionOf self.now from.old }
         requires to_its_own { IsSessionOf self.now to.old }

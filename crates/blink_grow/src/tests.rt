@@ -1,8 +1,10 @@
 //! What a renewal and a close do where a session is held, and what a session does where the map is renewed.
 ghost use Rattle.blink_grow.specs.Sessions.{IsSessionOf};
 
+use crate::copy::Begun;
 use crate::error::GrowError;
 use crate::growing::{GrowingMap, Session};
+use crate::waiting::CLOSE;
 use blink_batch::{Answer, Entry, Op};
 use blink_live::Scanned;
 use std::alloc::Global;
@@ -62,14 +64,14 @@ fn no_session_is_held_and_no_other_renewal_begins_while_the_map_is_renewed(rt: H
     assert_eq!(&rt; map.find_held(&mut held, 7), Some(70));
 }
 
-// A renewal lasts as long as a test says. Reads that wait for nobody change no place meanwhile.
+// A renewal gathers as long as a test says. Reads that wait for nobody change no place meanwhile.
 #[test]
-fn reads_that_wait_for_nobody_refuse_only_while_the_map_is_renewed(rt: HostRuntime) {
+fn reads_that_wait_for_nobody_refuse_only_while_sessions_are_gathered(rt: HostRuntime) {
     let alloc = rt.alloc();
     let (map, mut one, _other) = two(&rt, alloc);
     let range = (0, u64::MAX);
     let mut places = [NONE; 2];
-    map.renewing.store(true, Ordering::SeqCst);
+    map.gathering.store(true, Ordering::SeqCst);
     assert_eq!(&rt; map.try_find(&mut one, 7, 2), Err(GrowError::Busy));
     assert_eq!(&rt;
         map.try_scan(&mut one, range, 2, &mut places),
@@ -82,7 +84,7 @@ fn reads_that_wait_for_nobody_refuse_only_while_the_map_is_renewed(rt: HostRunti
     let refusal = map.try_snapshot(alloc, &mut one, range, 2).err();
     assert_eq!(&rt; refusal, Some(GrowError::Busy));
     assert_eq!(&rt; places, [NONE; 2]);
-    map.renewing.store(false, Ordering::SeqCst);
+    map.gathering.store(false, Ordering::SeqCst);
     assert_eq!(&rt; map.try_find(&mut one, 7, 0), Ok(Some(70)));
     let all = Scanned {
         filled: 1,
@@ -158,4 +160,61 @@ fn a_map_of_few_pages_stays_though_much_was_removed(rt: HostRuntime) {
     assert_eq!(&rt; map.had.load(Ordering::SeqCst), 1_019);
     let held = map.hold(&rt, one);
     assert_eq!(&rt; held.number(), 0);
+}
+
+// Renews the map by the first session, as a renewal does, but that the other one makes a change while the entries are copied.
+fn renew_around_a_change<R: Wait + Abort>(
+    rt: &R,
+    alloc: Global,
+    map: &GrowingMap,
+    other: &mut Session,
+) -> Result<(), GrowError>
+    requires its_own { IsSessionOf map.now other.old }
+{
+    let Begun {
+        mut seat,
+        mut lead,
+        mut others,
+    } = map.begin(alloc, 0, CLOSE)?;
+    let Some(noted) = map.note(&mut seat, 0, &mut lead, &mut others, CLOSE) else {
+        return Err(GrowError::Busy);
+    };
+    let early = map.prepare(alloc, 0, &mut lead)?;
+    let answer = map.change(rt, alloc, other, Op::Insert(8, 80));
+    assert_eq!(rt; answer, Ok(Answer::Inserted));
+    let copied = map.gather_again(alloc, &mut seat, 0, &mut lead, &mut others, early, noted)?;
+    let _left = map.go_over(&mut seat, 0, lead, others, copied);
+    Ok(())
+}
+
+#[test]
+fn entries_are_copied_again_where_one_was_changed_meanwhile(rt: HostRuntime) {
+    let alloc = rt.alloc();
+    let (map, mut one, mut other) = two(&rt, alloc);
+    let outcome = renew_around_a_change(&rt, alloc, &map, &mut other);
+    assert_eq!(&rt; outcome, Ok(()));
+    assert_eq!(&rt; map.find(&rt, &mut one, 7), Some(70));
+    assert_eq!(&rt; map.find(&rt, &mut one, 8), Some(80));
+}
+
+#[test]
+fn a_search_goes_on_while_the_entries_are_copied(rt: HostRuntime) {
+    let alloc = rt.alloc();
+    let (map, _one, mut other) = two(&rt, alloc);
+    map.renewing.store(true, Ordering::SeqCst);
+    assert_eq!(&rt; map.find(&rt, &mut other, 7), Some(70));
+    map.renewing.store(false, Ordering::SeqCst);
+}
+
+#[test]
+fn either_session_renews_the_map(rt: HostRuntime) {
+    let alloc = rt.alloc();
+    let (map, mut one, mut other) = two(&rt, alloc);
+    assert_eq!(&rt; map.try_renew_by(alloc, &one, None, 1), Ok(()));
+    assert_eq!(&rt; map.find(&rt, &mut other, 7), Some(70));
+    let answer = map.change(&rt, alloc, &mut one, Op::Insert(8, 80));
+    assert_eq!(&rt; answer, Ok(Answer::Inserted));
+    assert_eq!(&rt; map.try_renew_by(alloc, &other, None, 1), Ok(()));
+    assert_eq!(&rt; map.find(&rt, &mut one, 7), Some(70));
+    assert_eq!(&rt; map.find(&rt, &mut other, 8), Some(80));
 }

@@ -30,7 +30,7 @@ impl GrowingMap {
         ensures unchanged { OnErr result (IsSameSession session.old session.new) }
     {
         let Session { seat, slot } = session;
-        if !self.take_slot_unless_renewed(seat, *slot, tries) {
+        if !self.take_slot_unless(&self.gathering, seat, *slot, tries) {
             return Err(GrowError::Busy);
         }
         Ok(self.find_in_place(seat, *slot, key))
@@ -64,7 +64,7 @@ impl GrowingMap {
             ((IsSameSession session.old session.new) × (into.new ≡ into.old)) }
     {
         let Session { seat, slot } = session;
-        if !self.take_slot_unless_renewed(seat, *slot, tries) {
+        if !self.take_slot_unless(&self.gathering, seat, *slot, tries) {
             return Err(GrowError::Busy);
         }
         let (lo, hi) = range;
@@ -99,7 +99,7 @@ impl GrowingMap {
             ((IsSameSession session.old session.new) × (into.new ≡ into.old)) }
     {
         let Session { seat, slot } = session;
-        if !self.take_slot_unless_renewed(seat, *slot, tries) {
+        if !self.take_slot_unless(&self.gathering, seat, *slot, tries) {
             return Err(GrowError::Busy);
         }
         let (lo, hi) = range;
@@ -128,7 +128,7 @@ impl GrowingMap {
             (λ refusal. refusal ≡ Busy → IsSameSession session.old session.new) }
     {
         let Session { seat, slot } = session;
-        if !self.take_slot_unless_renewed(seat, *slot, tries) {
+        if !self.take_slot_unless(&self.gathering, seat, *slot, tries) {
             return Err(GrowError::Busy);
         }
         let (lo, hi) = range;

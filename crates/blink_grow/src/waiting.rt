@@ -4,17 +4,28 @@
 // costs a copy of all entries.
 pub(crate) const RENEWALS: u32 = 8;
 
-// How often a renewal looks for a session that a call has in one try, and how often it tries, before it gives up. It yields the processor
-// between two tries, since the thread of that call may have none. All calls wait meanwhile.
-pub(crate) const RENEWAL_LOOKS: u32 = 1_000;
+// How often a session is looked for: so many times in one try, in so many tries, at least one.
+#[derive(Clone, Copy)]
+pub(crate) struct Patience {
+    pub(crate) tries: u32,
+    pub(crate) looks: u32,
+}
 
-pub(crate) const RENEWAL_TRIES: u32 = 1_000;
+// How often a renewal looks for a session that a call has. It yields the processor between two tries, since the thread of that call may
+// have none. All calls wait meanwhile.
+pub(crate) const RENEWAL: Patience = Patience {
+    tries: 1_000,
+    looks: 1_000,
+};
 
 // The same of a close, when nobody is in a call. So a session that isn't in its slot at the first look stays away.
-pub(crate) const CLOSE_LOOKS: u32 = 1;
+pub(crate) const CLOSE: Patience = Patience { tries: 1, looks: 1 };
 
-// How often a snapshot of all keys is tried for the copy. Nobody changes the map meanwhile.
-pub(crate) const COPY_TRIES: u32 = 1;
+// How often a renewal waits a moment before it gathers the sessions, so that a call which has found none under way has taken its slot.
+pub(crate) const GRACE: u32 = 1_000;
+
+// How often a snapshot of all keys is tried for the copy. Changes wait meanwhile, but for those of a call that was about to take its slot.
+pub(crate) const COPY_TRIES: u32 = 8;
 
 // How often a renewal after removals looks for a session. No answer depends on it.
 pub(crate) const WORN_LOOKS: u32 = 1_000;

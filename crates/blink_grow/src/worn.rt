@@ -1,5 +1,8 @@
 //! Renewing a growing map from which many entries were removed. Emptied leaves stay in the current map, and a scan, or a look for its first
 //! or last entry, passes them. No clause speaks of it: a renewal keeps what the other calls promise.
+ghost use Rattle.std.specs.Prelude.{◌<◌};
+ghost use Rattle.blink_grow.specs.Sessions.{places_of};
+
 use crate::growing::GrowingMap;
 use crate::renew::Reason;
 use crate::room::numbers_over;
@@ -33,6 +36,13 @@ impl GrowingMap {
     ///
     /// What it costs is spread over the removals. A renewal copies the entries that are left, so no more than one for each removal.
     pub fn renew_if_worn(&self, alloc: Global, looks: u32) {
+        self.renew_if_worn_by(alloc, 0, looks);
+    }
+
+    // Does so by the session in this slot.
+    fn renew_if_worn_by(&self, alloc: Global, copier: usize, looks: u32)
+        requires in_range { copier < places_of self.now }
+    {
         let removed = self.removed.load(Ordering::SeqCst);
         let had = self.had.load(Ordering::SeqCst);
         if removed <= had / 2 {
@@ -44,7 +54,7 @@ impl GrowingMap {
         if begun.is_ok() {
             self.had
                 .store(had.saturating_sub(removed), Ordering::SeqCst);
-            let _outcome = self.renew_unless_busy(alloc, Reason::Worn, looks);
+            let _outcome = self.renew_unless_busy(alloc, copier, Reason::Worn, looks);
         }
     }
 
@@ -55,11 +65,14 @@ impl GrowingMap {
         used.saturating_mul(u64::from(self.fan)) / 4 > self.had.load(Ordering::SeqCst)
     }
 
-    // Counts the entry that an operation has inserted or removed. After a removal the map is renewed where that is due.
-    pub(crate) fn count_and_renew(&self, alloc: Global, op: Op, answer: Answer) {
+    // Counts the entry that an operation of the session in this slot has inserted or removed. After a removal the map is renewed where that
+    // is due.
+    pub(crate) fn count_and_renew(&self, alloc: Global, slot: usize, op: Op, answer: Answer)
+        requires in_range { slot < places_of self.now }
+    {
         self.count(op, answer);
         if let Answer::Removed(_) = answer {
-            self.renew_if_worn(alloc, WORN_LOOKS);
+            self.renew_if_worn_by(alloc, slot, WORN_LOOKS);
         }
     }
 

@@ -12,8 +12,8 @@ use std::sync::{Mutex, MutexGuard, PoisonError};
 use std::thread;
 
 /// A map that grows, which threads read and change together at any key. Nobody tells it how much room it is to have: where a change finds
-/// none, it renews the map, which copies the entries into another one with more room. All sessions wait meanwhile, those that search too,
-/// and a renewal takes memory for both maps.
+/// none, it renews the map, which copies the entries into another one with more room. Searches go on meanwhile, and changes wait. A renewal
+/// takes memory for both maps.
 ///
 /// A thread changes it by a [`GrowingSession`], which has a share of the map. So a session may stand in a struct, or in a thread that
 /// outlives the function.
@@ -152,8 +152,9 @@ impl std::error::Error for UnclosedGrowing {}
 /// The right of one thread to read and change a growing map, of which it has a share. A session that is dropped leaves the map, and its place
 /// can be taken again.
 ///
-/// Its calls are those of [`Session`](crate::Session), and promise the same through all renewals. None is refused with [`Error::Full`]. They
-/// wait while the map is renewed. A change waits also for a page that another session has just then, and a change that finds the map full
+/// Its calls are those of [`Session`](crate::Session), and promise the same through all renewals. None is refused with [`Error::Full`]. A
+/// change waits while the map is renewed, and a search only while the renewal gathers the sessions, or if [`GrowingMap::renew`] has taken this
+/// one for its copy. A change waits also for a page that another session has just then, and a change that finds the map full
 /// waits while another session is [held](GrowingSession::hold), so that the map can't be renewed.
 pub struct GrowingSession {
     handle: Handle,

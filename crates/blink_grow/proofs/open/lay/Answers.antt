@@ -1,4 +1,4 @@
-use Rattle.std.proofs.Common.{◌≡◌, ℕ, ◌+◌, ◌<◌, List, Option, Some, [], ◌∷◌, length, length-append, sym, ap, subst, arith}
+use Rattle.std.proofs.Common.{◌≡◌, ℕ, ◌+◌, ◌<◌, List, Option, Some, [], ◌∷◌, length, length-append, refl, sym, ap, subst, arith}
 use Rattle.std.specs.Arc.{arc_value}
 use Rattle.blink_map.specs.declared.map.Map.{Map}
 use Rattle.blink_map.specs.declared.map.Session.{Session as MapSession}
@@ -31,7 +31,7 @@ loop-slot-preserved c =
     let map : Map = arc_value c.args.map.now in
     let old : List MapSession = c.loop-slot.sessions.items in
     let slots : List (Option Current) = c.loop-slot.slots.items in
-    let held : Current = record { map = c.in_ok-owner.owner; session = c.remove-session.result; number = 0 } in
+    let held : Current = record { map = c.in_ok-owner.owner; session = c.remove-session.result; number = 0; changes = 0 } in
     let invariant = c.loop-slot.invariant in
     let left = invariant.left in
     let width = invariant.width in
@@ -43,7 +43,7 @@ loop-slot-preserved c =
     let then_ok = c.remove-session.new.self.ok in
     let there : 0 < length old = omega (arith, left, more, end_is, all) in
     let its : IsFirst map c.loop-slot._slot c.remove-session.result = first_of_them map c.loop-slot._slot old c.remove-session.result there c.remove-session.ensures.value invariant.first in
-    let in_slot : IsFirstIn map (length slots) held = record { same_map = c.in_ok-owner.ensures; first = subst (λ (n : ℕ). IsFirst map n c.remove-session.result) (sym width) its } in
+    let in_slot : IsFirstIn map (length slots) held = record { same_map = c.in_ok-owner.ensures; first = subst (λ (n : ℕ). IsFirst map n c.remove-session.result) (sym width) its; none_counted = refl } in
     let longer = ap (λ (l : List (Option Current)). length l) c.in_ok-lay_one.ensures in
     let one_more = length-append slots (Some held ∷ []) in
     record {

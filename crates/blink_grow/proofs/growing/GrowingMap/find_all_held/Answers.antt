@@ -12,7 +12,7 @@ pub invariant_of-held : goal.invariant_of-held
 invariant_of-held c =
     let old = c.args.held.now in
     let same = c.find_all.ensures.same in
-    record { held = held_again old.slot old.seat.me old.current old.held c.find_all.new.session same.saw same.same_member; in_range = old.in_range; all_slots = old.all_slots }
+    record { held = held_again old.slot old.seat.me old.current old.held c.find_all.new.session same.saw same.same_member same.made; in_range = old.in_range; all_slots = old.all_slots }
 
 fits : (keys : List ℕ) → ((k : ℕ) → get_or keys k 0 < 2 ^ 64) → (k key : ℕ) → get_elem? keys k ≡ some key → key < 2 ^ 64
 fits keys all k key there = subst (λ (n : ℕ). n < 2 ^ 64) (some-injective (get_or keys k 0) key (sym (some_or keys k 0 (in_list keys k key there)) ∙ there)) (all k)

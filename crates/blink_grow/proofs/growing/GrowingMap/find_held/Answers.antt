@@ -10,7 +10,7 @@ pub invariant_of-held : goal.invariant_of-held
 invariant_of-held c =
     let old = c.args.held.now in
     let same = c.find.ensures.same in
-    record { held = held_again old.slot old.seat.me old.current old.held c.find.new.session same.saw same.same_member; in_range = old.in_range; all_slots = old.all_slots }
+    record { held = held_again old.slot old.seat.me old.current old.held c.find.new.session same.saw same.same_member same.made; in_range = old.in_range; all_slots = old.all_slots }
 
 pub returns-clause-state : goal.returns-clause-state
 returns-clause-state c =

@@ -1,54 +1,14 @@
-use Rattle.std.proofs.Common.{◌≡◌, ℕ, suc, ◌+◌, ◌∷◌, [], List, Option, length, refl, sym, ap, subst, arith}
+use Rattle.std.proofs.Common.{ap, arith}
 use Rattle.atomic_table.specs.Seated.{TableId}
-use Rattle.atomic_table.specs.Table.{rest}
-use Rattle.atomic_table.specs.declared.Seat.{Seat}
-use Rattle.blink_grow.specs.declared.slots.Current.{Current}
-use Rattle.blink_grow.specs.declared.slots.SlotView.{SlotView}
-use Rattle.blink_grow.specs.Renewing.{IsRenewing}
-use Rattle.blink_grow.specs.Rule.{known_of}
-use Rattle.blink_grow.specs.Steps.{CanGive, has_given, past_of}
-use Rattle.blink_grow.proofs.Gathers.{can_give_first, can_give_last, last_given, last_in_range}
+use Rattle.blink_grow.proofs.Gathers.{can_give_first}
 use Rattle.blink_grow.proofs.growing.GrowingMap.give_all.Goals as goal
-
-slot_is : (before : List Current) (len count : ℕ) → count ≡ len → len ≡ length before → count + 1 ≡ suc (length before)
-slot_is before len count one two = omega (arith, one, two)
-
-none_left : (others : List Current) → length others ≡ 0 → others ≡ []
-none_left [] none = refl
-none_left (held ∷ others) none = absurd (omega (arith, none))
 
 pub give-requires-clause-in_range : goal.give-requires-clause-in_range
 give-requires-clause-in_range c =
-    let before : List Current = c.pop.new.self.items in
-    let held : Current = c.in-Some.held in
-    let r = subst (IsRenewing c.args.self.now c.loop-held.seat c.args.lead) c.in-Some.ensures.items c.loop-held.invariant.renewing in
-    let inside = last_in_range c.args.self.now c.loop-held.seat c.args.lead before held r in
+    let r = c.give_others.ensures.renewing in
+    let inside = r.in_range in
     let same = ap (λ (t : TableId). t.slots) r.same_table in
-    let len = c.len-slot.ensures in
-    let ok = c.pop.new.self.ok in
-    omega (arith, inside, same, len, ok)
+    omega (arith, inside, same)
 
 pub give-requires-clause-can : goal.give-requires-clause-can
-give-requires-clause-can c =
-    let before : List Current = c.pop.new.self.items in
-    let held : Current = c.in-Some.held in
-    let r = subst (IsRenewing c.args.self.now c.loop-held.seat c.args.lead) c.in-Some.ensures.items c.loop-held.invariant.renewing in
-    let slot = slot_is before c.pop.new.self.len c.len-slot.result c.len-slot.ensures c.pop.new.self.ok.0 in
-    subst (λ (n : ℕ). CanGive n c.loop-held.seat.me held) (sym slot) (can_give_last c.args.self.now c.loop-held.seat c.args.lead before held r)
-
-pub loop-held-preserved : goal.loop-held-preserved
-loop-held-preserved c =
-    let before : List Current = c.pop.new.self.items in
-    let held : Current = c.in-Some.held in
-    let old : Seat (Option Current) SlotView = c.loop-held.seat in
-    let r = subst (IsRenewing c.args.self.now old c.args.lead) c.in-Some.ensures.items c.loop-held.invariant.renewing in
-    let slot = slot_is before c.pop.new.self.len c.len-slot.result c.len-slot.ensures c.pop.new.self.ok.0 in
-    let known = λ (n : ℕ). known_of (past_of old.me.0.now) n held in
-    let given = subst (λ (n : ℕ). c.give.new.seat.me ≡ (has_given old.me.0 n (known n), rest old.me.1)) slot c.give.ensures.given in
-    record { renewing = last_given c.args.self.now old c.args.lead before held r c.give.new.seat (known (suc (length before))) c.give.ensures.same given }
-
-pub give-requires-2-clause-can : goal.give-requires-2-clause-can
-give-requires-2-clause-can c =
-    let none : length c.loop-held.others.items ≡ 0 = let zero_long = c.in_default.ensures.cases.0 in let ok = c.loop-held.others.ok in omega (arith, zero_long, ok) in
-    let r = subst (IsRenewing c.args.self.now c.loop-held.seat c.args.lead) (none_left c.loop-held.others.items none) c.loop-held.invariant.renewing in
-    can_give_first c.args.self.now c.loop-held.seat c.args.lead r
+give-requires-clause-can c = can_give_first c.args.self.now c.give_others.new.seat c.args.copier c.args.lead c.give_others.ensures.renewing

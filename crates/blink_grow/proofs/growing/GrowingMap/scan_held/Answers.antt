@@ -11,7 +11,7 @@ pub invariant_of-held : goal.invariant_of-held
 invariant_of-held c =
     let old = c.args.held.now in
     let same = c.scan.ensures.same in
-    record { held = held_again old.slot old.seat.me old.current old.held c.scan.new.session same.saw same.same_member; in_range = old.in_range; all_slots = old.all_slots }
+    record { held = held_again old.slot old.seat.me old.current old.held c.scan.new.session same.saw same.same_member same.made; in_range = old.in_range; all_slots = old.all_slots }
 
 pub returns-clause-report : goal.returns-clause-report
 returns-clause-report c =

@@ -21,7 +21,7 @@ pub give_back-requires-clause-can : goal.give_back-requires-clause-can
 give_back-requires-clause-can c =
     let new = c.scan-scanned.new.session in
     record {
-      held = held_with c.in-Some.current new;
+      held = held_with c.in-Some.current new c.in-Some.current.changes;
       there = refl;
       can = can_give_then c.args.slot c.args.seat.now.me c.requires.taken c.slot_mut.result.now c.in-Some.current c.slot_mut.ensures.value c.in-Some.is new c.scan-scanned.ensures.same;
     }

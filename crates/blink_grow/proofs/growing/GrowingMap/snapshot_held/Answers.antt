@@ -10,7 +10,7 @@ pub invariant_of-held : goal.invariant_of-held
 invariant_of-held c =
     let old = c.args.held.now in
     let same = c.snapshot.ensures.same in
-    record { held = held_again old.slot old.seat.me old.current old.held c.snapshot.new.session same.saw same.same_member; in_range = old.in_range; all_slots = old.all_slots }
+    record { held = held_again old.slot old.seat.me old.current old.held c.snapshot.new.session same.saw same.same_member same.made; in_range = old.in_range; all_slots = old.all_slots }
 
 -- what the map's session has got, if it has got it, is so of the whole list
 if_got : {A E : Type 0} (found : Result (Option A) E) (P Q : A → Type 0) → ((a : A) → P a → Q a) → IfOk found (λ some. IfSome some P) → IfOk found (λ some. IfSome some Q)

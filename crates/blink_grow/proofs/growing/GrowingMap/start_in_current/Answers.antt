@@ -1,8 +1,8 @@
 use Rattle.std.proofs.Common.{refl, subst}
 use Rattle.blink_map.specs.declared.map.Map.{Map}
 use Rattle.blink_map.specs.{AnswersInOrder, HasStopped, opening_of}
-use Rattle.blink_grow.proofs.CallsOfSessions.{has_tried, key_fits, saw_answer}
-use Rattle.blink_grow.proofs.HeldSessions.{answers_whole, held_again, knows_more}
+use Rattle.blink_grow.proofs.CallsOfSessions.{has_tried, in_order_counted, key_fits, saw_answer}
+use Rattle.blink_grow.proofs.HeldSessions.{answers_whole, held_again, held_counted, knows_more}
 use Rattle.blink_grow.proofs.growing.GrowingMap.start_in_current.Goals as goal
 
 pub invariant_of-held : goal.invariant_of-held
@@ -10,8 +10,9 @@ invariant_of-held c =
     let old = c.args.held in
     let answered = c.in-Ok.ensures.answered in
     record {
-      held = held_again old.slot old.seat.me old.current old.held c.in-Ok.session
-          (saw_answer (opening_of c.deref.result.now) c.args.op old.current.session c.in-Ok.session c.in-Ok.answer answered.in_order) answered.same_member;
+      held = held_counted old.slot old.seat.me old.current old.held c.in-Ok.session c.counted.result
+          (saw_answer (opening_of c.deref.result.now) c.args.op old.current.session c.in-Ok.session c.in-Ok.answer answered.in_order) answered.same_member
+          (in_order_counted (opening_of c.deref.result.now) c.args.op old.current c.in-Ok.session c.in-Ok.answer c.counted.result answered.in_order c.counted.ensures);
       in_range = old.in_range;
       all_slots = old.all_slots;
     }
@@ -21,7 +22,7 @@ invariant_of-result c =
     let old = c.args.held in
     let stopped = subst (HasStopped c.deref.result.now c.args.op old.current.session) c.in-Err-Full.field-0-is c.in-Err-Full.ensures.stopped in
     let tried = has_tried c.args.op old.current.session c.in-Err-Full.session stopped.2 in
-    record { held = held_again old.slot old.seat.me old.current old.held c.in-Err-Full.session tried.saw tried.same_member; in_range = old.in_range; all_slots = old.all_slots }
+    record { held = held_again old.slot old.seat.me old.current old.held c.in-Err-Full.session tried.saw tried.same_member tried.made; in_range = old.in_range; all_slots = old.all_slots }
 
 pub returns-in-Ok-clause-answered : goal.returns-in-Ok-clause-answered
 returns-in-Ok-clause-answered c =
