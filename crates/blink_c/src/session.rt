@@ -26,7 +26,7 @@ pub extern "C" fn blink_session_find(
     requires its_own { IsOwnSession session.old.value }
     ensures its_own { IsOwnSession session.new.value }
     ensures found { result ≡ 0 → Finds key session.old.value session.new.value answer.new }
-    ensures refused { TellsWhy code_of (IsNotFree session.old.value.held) result }
+    ensures refused { TellsWhy code_of (IsNotFree session.old.value.free) result }
     ensures unchanged { result ≢ 0
         → (session.new.value ≡ session.old.value) × (answer.new ≡ answer.old) }
 {
@@ -46,7 +46,7 @@ pub extern "C" fn blink_session_scan(
     ensures its_own { IsOwnSession session.new.value }
     ensures scanned { result ≡ 0
         → Scans lo hi session.old.value session.new.value entries.old entries.new scanned.new }
-    ensures refused { TellsWhy code_of (IsNotFree session.old.value.held) result }
+    ensures refused { TellsWhy code_of (IsNotFree session.old.value.free) result }
     ensures unchanged { result ≢ 0 → (session.new.value ≡ session.old.value)
         × (entries.new ≡ entries.old) × (scanned.new ≡ scanned.old) }
 {
@@ -67,7 +67,7 @@ pub extern "C" fn blink_session_scan_back(
     ensures its_own { IsOwnSession session.new.value }
     ensures scanned { result ≡ 0
         → ScansBack lo hi session.old.value session.new.value entries.old entries.new scanned.new }
-    ensures refused { TellsWhy code_of (IsNotFree session.old.value.held) result }
+    ensures refused { TellsWhy code_of (IsNotFree session.old.value.free) result }
     ensures unchanged { result ≢ 0 → (session.new.value ≡ session.old.value)
         × (entries.new ≡ entries.old) × (scanned.new ≡ scanned.old) }
 {
@@ -221,9 +221,9 @@ pub extern "C" fn blink_session_advance(
     requires its_own { IsOwnSession session.old.value }
     ensures its_own { IsOwnSession session.new.value }
     ensures ended { result ≡ 0
-        → EndsFrom session.old.value.held session.old.value session.new.value answer.new }
+        → EndsFrom session.old.value.under_way session.old.value session.new.value answer.new }
     ensures refused { TellsWhy code_of
-        (IsAdvanceRefusal session.old.value.held session.old.value session.new.value) result }
+        (IsAdvanceRefusal session.old.value.under_way session.old.value session.new.value) result }
     ensures unchanged { result ≢ 0 → answer.new ≡ answer.old }
 {
     code_of(&session.get().advance(tries, answer))
@@ -253,7 +253,7 @@ pub extern "C" fn blink_session_reserve(session: &mut SessionHandle, stock: &mut
     requires its_own { IsOwnSession session.old.value }
     ensures its_own { IsOwnSession session.new.value }
     ensures told { result ≡ 0 → TellsStock session.old.value stock.new }
-    ensures refused { TellsWhy code_of (IsNotFree session.old.value.held) result }
+    ensures refused { TellsWhy code_of (IsNotFree session.old.value.free) result }
     ensures same { session.new.value ≡ session.old.value }
     ensures unchanged { result ≢ 0 → stock.new ≡ stock.old }
 {

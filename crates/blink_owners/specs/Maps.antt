@@ -1,5 +1,5 @@
 -- A map behind a handle: what the calls make of it, and why they are refused.
-use Rattle.std.specs.Prelude.{◌≡◌, ◌⊎◌, ◌<◌, ◌≤◌, ℕ, List, [], ⊤}
+use Rattle.std.specs.Prelude.{◌≡◌, ◌⊎◌, ◌<◌, ◌≤◌, ℕ, List, [], Some, ⊤}
 use Rattle.std.specs.Arc.{arc_value}
 use Rattle.blink_map.specs.declared.error.MapError.{MapError}
 use Rattle.blink_map.specs.declared.error.MapError.TheVariants as map
@@ -16,7 +16,6 @@ use Rattle.blink_owners.specs.declared.map_refusal.MapRefusal.TheVariants as ref
 use Rattle.blink_owners.specs.declared.map_state.MapState.{MapState}
 use Rattle.blink_owners.specs.declared.map_state.MapState.TheVariants as state
 use Rattle.blink_owners.specs.declared.map_state.MapState.TheVariants.{Open, Closed}
-use Rattle.blink_owners.specs.declared.session_owner.HeldSession.TheVariants.{Free}
 use Rattle.blink_owners.specs.declared.session_owner.SessionOwner.{SessionOwner}
 use Rattle.blink_owners.specs.Sessions.{in_map}
 
@@ -80,7 +79,7 @@ IsShareFault refusal = (refusal ≡ refused.Map map.OutOfMemory) ⊎ (refusal �
 -- the new handle has a session of the map
 pub record Joins (owner : MapOwner) (given : SessionOwner) : Type 0 where
   pub session : Session
-  pub free : given.held ≡ Free session
+  pub free : given.free ≡ Some session
   pub its_own : IsSessionOf (map_in owner) session
   pub one_map : in_map given ≡ map_in owner
   pub one_number : given.number ≡ owner.number

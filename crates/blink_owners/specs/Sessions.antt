@@ -1,5 +1,5 @@
 -- A session behind a handle: what the calls make of it, and why they are refused.
-use Rattle.std.specs.Prelude.{◌≡◌, ◌≢◌, ◌⊎◌, ℕ, Option, Some, None, List, ⊤}
+use Rattle.std.specs.Prelude.{◌≡◌, ◌≢◌, ◌⊎◌, ℕ, Option, Some, None, IfSome, IsSome, List, is_none, is_some}
 use Rattle.std.specs.Arc.{arc_value}
 use mathlib.Core.List.{IsPrefix}
 use Rattle.blink_batch.specs.declared.Answer.{Answer}
@@ -20,8 +20,8 @@ use Rattle.blink_owners.specs.declared.raw.RawTaken.{RawTaken}
 use Rattle.blink_owners.specs.declared.raw.TheConstants.{INSERTED, REPLACED}
 use Rattle.blink_owners.specs.declared.map_refusal.MapRefusal.{MapRefusal}
 use Rattle.blink_owners.specs.declared.map_refusal.MapRefusal.TheVariants as refused
-use Rattle.blink_owners.specs.declared.session_owner.HeldSession.{HeldSession}
-use Rattle.blink_owners.specs.declared.session_owner.HeldSession.TheVariants.{Free, Busy, Putting, Gone}
+use Rattle.blink_owners.specs.declared.session_owner.UnderWay.{UnderWay}
+use Rattle.blink_owners.specs.declared.session_owner.UnderWay.TheVariants.{Busy, Putting}
 use Rattle.blink_owners.specs.declared.session_owner.SessionOwner.{SessionOwner}
 use Rattle.blink_owners.specs.Raw.{raw_answer, raw_shown, raw_stock}
 use Rattle.blink_owners.specs.Reports.{HasReported, HasReportedBack, TellsTaken}
@@ -34,25 +34,26 @@ in_map owner = (arc_value owner.shared).map
 abbrev pub IsOfPut : ℕ → ℕ → Op → Type 0
 IsOfPut key pointer op = (op ≡ Insert key pointer) ⊎ (op ≡ Replace key pointer)
 
--- what is held is of this map, and between two calls there is always something
-abbrev pub IsHeldBy : Map → HeldSession → Type 0
-IsHeldBy map (Free session) = IsSessionOf map session
-IsHeldBy map (Busy pending) = IsPendingOf map pending
-IsHeldBy map (Putting pending key pointer) = IsPendingOf map pending × IsOfPut key pointer (op_of pending)
-IsHeldBy map Gone = ⊥
+-- what is under way is of this map
+abbrev pub IsUnderWayIn : Map → UnderWay → Type 0
+IsUnderWayIn map (Busy pending) = IsPendingOf map pending
+IsUnderWayIn map (Putting pending key pointer) = IsPendingOf map pending × IsOfPut key pointer (op_of pending)
 
--- a handle that a call has filled holds what is of its map
-abbrev pub IsOwnSession : SessionOwner → Type 0
-IsOwnSession owner = IsHeldBy (in_map owner) owner.held
+-- a handle that a call has filled has a session of its map, or its operation: one of the two is always there between calls, and never both
+pub record IsOwnSession (owner : SessionOwner) : Type 0 where
+  pub its_session : IfSome owner.free (IsSessionOf (in_map owner))
+  pub its_operation : IfSome owner.under_way (IsUnderWayIn (in_map owner))
+  pub one : is_some owner.free ≡ is_none owner.under_way
 
-abbrev pub IsFree : HeldSession → Type 0
-IsFree (Free session) = ⊤
-IsFree held = ⊥
+-- within a call neither is there
+pub record IsEmpty (owner : SessionOwner) : Type 0 where
+  pub no_session : owner.free ≡ None
+  pub no_operation : owner.under_way ≡ None
 
 -- why the session isn't free
-abbrev pub IsNotFree : HeldSession → MapRefusal → Type 0
-IsNotFree (Free session) refusal = ⊥
-IsNotFree held refusal = refusal ≡ refused.UnderWay
+abbrev pub IsNotFree : Option Session → MapRefusal → Type 0
+IsNotFree (Some session) refusal = ⊥
+IsNotFree None refusal = refusal ≡ refused.UnderWay
 
 -- the map is the same
 pub record IsOfSameMap (old new : SessionOwner) : Type 0 where
@@ -61,8 +62,8 @@ pub record IsOfSameMap (old new : SessionOwner) : Type 0 where
 
 -- a free session has become another state of it
 pub record StaysFree (old new : SessionOwner) (before now : Session) : Type 0 where
-  pub was : old.held ≡ Free before
-  pub is : new.held ≡ Free now
+  pub was : old.free ≡ Some before
+  pub is : new.free ≡ Some now
   pub same : IsOfSameMap old new
 
 -- ---- look-ups, and what a session is told
@@ -70,7 +71,7 @@ pub record StaysFree (old new : SessionOwner) (before now : Session) : Type 0 wh
 -- the session is free, and this is its stock
 pub record TellsStock (owner : SessionOwner) (given : RawStock) : Type 0 where
   pub session : Session
-  pub free : owner.held ≡ Free session
+  pub free : owner.free ≡ Some session
   pub stock : given ≡ raw_stock (stock_of session)
 
 -- the key is looked up after the changes that the session has seen by the end of the call
@@ -114,7 +115,7 @@ pub record MaySeeMore (old new : SessionOwner) : Type 0 where
 
 -- memory was refused; or the session isn't free, and nothing has changed
 abbrev pub IsTakeRefusal : SessionOwner → SessionOwner → MapRefusal → Type 0
-IsTakeRefusal old new refusal = ((refusal ≡ refused.Map OutOfMemory) × MaySeeMore old new) ⊎ (IsNotFree old.held refusal × (new ≡ old))
+IsTakeRefusal old new refusal = ((refusal ≡ refused.Map OutOfMemory) × MaySeeMore old new) ⊎ (IsNotFree old.free refusal × (new ≡ old))
 
 pub record TellsOn (from from_new to to_new : SessionOwner) : Type 0 where
   pub teller : Session
@@ -133,7 +134,7 @@ pub record TellsOn (from from_new to to_new : SessionOwner) : Type 0 where
 abbrev pub IsTellRefusal : SessionOwner → SessionOwner → MapRefusal → Type 0
 IsTellRefusal from to refused.Foreign = from.number ≢ to.number
 IsTellRefusal from to refusal =
-    (from.number ≡ to.number) × (IsNotFree from.held refusal ⊎ (IsFree from.held × IsNotFree to.held refusal))
+    (from.number ≡ to.number) × (IsNotFree from.free refusal ⊎ (IsSome from.free × IsNotFree to.free refusal))
 
 -- ---- operations that change the map
 
@@ -141,7 +142,7 @@ IsTellRefusal from to refusal =
 pub record HasAnswered (op : Op) (before : Session) (old new : SessionOwner) (given : RawAnswer) : Type 0 where
   pub now : Session
   pub answer : Answer
-  pub is : new.held ≡ Free now
+  pub is : new.free ≡ Some now
   pub same : IsOfSameMap old new
   pub its_answer : given ≡ raw_answer answer
   pub answered : IsAnswered (in_map old) op before now answer
@@ -149,13 +150,13 @@ pub record HasAnswered (op : Op) (before : Session) (old new : SessionOwner) (gi
 -- a free session has made this operation
 pub record Answers (op : Op) (old new : SessionOwner) (given : RawAnswer) : Type 0 where
   pub before : Session
-  pub was : old.held ≡ Free before
+  pub was : old.free ≡ Some before
   pub ended : HasAnswered op before old new given
 
 -- the operation has begun, and goes on at the next call
 pub record IsBusyWith (op : Op) (before : Session) (old new : SessionOwner) : Type 0 where
   pub pending : Pending
-  pub is : new.held ≡ Busy pending
+  pub is : new.under_way ≡ Some (Busy pending)
   pub same : IsOfSameMap old new
   pub begun : HasBegun (in_map old) op before pending
 
@@ -168,7 +169,7 @@ IsShortage op session refusal = ⊥
 -- the session lacked room, and has made no change. Where the operation is an insertion, its key was absent
 pub record LacksRoomFor (op : Op) (before : Session) (old new : SessionOwner) (refusal : MapRefusal) : Type 0 where
   pub now : Session
-  pub is : new.held ≡ Free now
+  pub is : new.free ≡ Some now
   pub same : IsOfSameMap old new
   pub lacks : LacksRoom op before now
   pub shortage : IsShortage op now refusal
@@ -185,8 +186,8 @@ IsNotEnded op before old new refusal = ⊥
 -- the operation of a free session hasn't ended; or the session wasn't free, and then nothing changes
 abbrev pub IsChangeRefusal : Op → SessionOwner → SessionOwner → MapRefusal → Type 0
 IsChangeRefusal op old new refusal =
-    ((before : Session) × (old.held ≡ Free before) × IsNotEnded op before old new refusal)
-    ⊎ (IsNotFree old.held refusal × (new ≡ old))
+    ((before : Session) × (old.free ≡ Some before) × IsNotEnded op before old new refusal)
+    ⊎ (IsNotFree old.free refusal × (new ≡ old))
 
 -- ---- an entry that is put
 
@@ -199,7 +200,7 @@ raw_put (Some was) = record { kind = REPLACED; pointer = was }
 pub record HasPut (key pointer : ℕ) (before : Session) (old new : SessionOwner) (given : RawAnswer) : Type 0 where
   pub now : Session
   pub was_there : Option ℕ
-  pub is : new.held ≡ Free now
+  pub is : new.free ≡ Some now
   pub same : IsOfSameMap old new
   pub its_answer : given ≡ raw_put was_there
   pub put : IsPut (in_map old) key pointer before now was_there
@@ -207,13 +208,13 @@ pub record HasPut (key pointer : ℕ) (before : Session) (old new : SessionOwner
 -- a free session has put the pointer
 pub record Puts (key pointer : ℕ) (old new : SessionOwner) (given : RawAnswer) : Type 0 where
   pub before : Session
-  pub was : old.held ≡ Free before
+  pub was : old.free ≡ Some before
   pub ended : HasPut key pointer before old new given
 
 -- the put goes on at the next call. The session has made no change so far
 pub record IsPuttingOn (key pointer : ℕ) (before : Session) (old new : SessionOwner) : Type 0 where
   pub pending : Pending
-  pub is : new.held ≡ Putting pending key pointer
+  pub is : new.under_way ≡ Some (Putting pending key pointer)
   pub same : IsOfSameMap old new
   pub its_own : IsPendingOf (in_map old) pending
   pub of_put : IsOfPut key pointer (op_of pending)
@@ -223,7 +224,7 @@ pub record IsPuttingOn (key pointer : ℕ) (before : Session) (old new : Session
 -- insertion, the key was absent
 pub record LacksRoomToPut (key pointer : ℕ) (before : Session) (old new : SessionOwner) (refusal : MapRefusal) : Type 0 where
   pub now : Session
-  pub is : new.held ≡ Free now
+  pub is : new.free ≡ Some now
   pub same : IsOfSameMap old new
   pub op : Op
   pub of_put : IsOfPut key pointer op
@@ -242,26 +243,26 @@ IsNotPut key pointer before old new refusal = ⊥
 
 abbrev pub IsPutRefusal : ℕ → ℕ → SessionOwner → SessionOwner → MapRefusal → Type 0
 IsPutRefusal key pointer old new refusal =
-    ((before : Session) × (old.held ≡ Free before) × IsNotPut key pointer before old new refusal)
-    ⊎ (IsNotFree old.held refusal × (new ≡ old))
+    ((before : Session) × (old.free ≡ Some before) × IsNotPut key pointer before old new refusal)
+    ⊎ (IsNotFree old.free refusal × (new ≡ old))
 
 -- ---- an operation or a put that goes on
 
 -- it has ended, with this answer
-abbrev pub EndsFrom : HeldSession → SessionOwner → SessionOwner → RawAnswer → Type 0
-EndsFrom (Busy pending) old new given = HasAnswered (op_of pending) (session_of pending) old new given
-EndsFrom (Putting pending key pointer) old new given = HasPut key pointer (session_of pending) old new given
-EndsFrom held old new given = ⊥
+abbrev pub EndsFrom : Option UnderWay → SessionOwner → SessionOwner → RawAnswer → Type 0
+EndsFrom (Some (Busy pending)) old new given = HasAnswered (op_of pending) (session_of pending) old new given
+EndsFrom (Some (Putting pending key pointer)) old new given = HasPut key pointer (session_of pending) old new given
+EndsFrom None old new given = ⊥
 
 -- the operation is under way still
 pub record StaysBusy (before : Pending) (old new : SessionOwner) : Type 0 where
   pub now : Pending
-  pub is : new.held ≡ Busy now
+  pub is : new.under_way ≡ Some (Busy now)
   pub same : IsOfSameMap old new
   pub goes_on : GoesOn (in_map old) before now
 
 -- it hasn't ended, or there is none, and then nothing changes
-abbrev pub IsAdvanceRefusal : HeldSession → SessionOwner → SessionOwner → MapRefusal → Type 0
-IsAdvanceRefusal (Busy pending) old new refusal = (refusal ≡ refused.UnderWay) × StaysBusy pending old new
-IsAdvanceRefusal (Putting pending key pointer) old new refusal = IsNotPut key pointer (session_of pending) old new refusal
-IsAdvanceRefusal held old new refusal = (refusal ≡ refused.Idle) × (new ≡ old)
+abbrev pub IsAdvanceRefusal : Option UnderWay → SessionOwner → SessionOwner → MapRefusal → Type 0
+IsAdvanceRefusal (Some (Busy pending)) old new refusal = (refusal ≡ refused.UnderWay) × StaysBusy pending old new
+IsAdvanceRefusal (Some (Putting pending key pointer)) old new refusal = IsNotPut key pointer (session_of pending) old new refusal
+IsAdvanceRefusal None old new refusal = (refusal ≡ refused.Idle) × (new ≡ old)

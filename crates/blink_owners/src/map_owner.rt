@@ -7,11 +7,11 @@ ghost use Rattle.blink_live.specs.{IsNumberedInOrder};
 ghost use Rattle.blink_live.specs.declared.view.Change.{Change};
 ghost use Rattle.blink_map.specs.{AreEntriesAfter, IsAfter, IsSessionOf};
 ghost use Rattle.blink_owners.specs.Maps.{CanClose, HasBadSessions, IsCloseFault, IsClosedMap, IsEndFault, IsJoinFault, IsNewMap, IsOpenFault, IsOwnMap, IsOwnerOfSame, IsSettledOf, IsShareFault, IsTooLargeMap, Joins, fan_in, map_in};
-ghost use Rattle.blink_owners.specs.Sessions.{IsOwnSession, in_map};
+ghost use Rattle.blink_owners.specs.Sessions.{IsEmpty, IsOwnSession, in_map};
 
 use crate::map_refusal::MapRefusal;
 use crate::map_state::MapState;
-use crate::session_owner::{HeldSession, SessionOwner};
+use crate::session_owner::SessionOwner;
 use crate::shared_map::SharedMap;
 use blink_index::Index;
 use blink_map::{Map, MapError, Room, Session, Settled};
@@ -126,7 +126,7 @@ impl MapOwner {
         };
         match shared.places.join() {
             Ok(session) => {
-                owner.held = HeldSession::Free(session);
+                owner.free = Some(session);
                 Ok(owner)
             }
             Err(_) => Err(MapError::NoPlace),
@@ -267,12 +267,14 @@ fn empty_owner(
 ) -> Result<Box<SessionOwner>, AllocError>
     ensures map { IfOk result (λ session. in_map session.value ≡ (arc_value shared.now).map) }
     ensures number { IfOk result (λ session. session.value.number ≡ number) }
+    ensures empty { IfOk result (λ session. IsEmpty session.value) }
 {
     let shared = Arc::try_clone(shared)?;
     let owner = SessionOwner {
         shared,
         number,
-        held: HeldSession::Gone,
+        free: None,
+        under_way: None,
     };
     match Box::new(alloc, owner) {
         Ok(session) => Ok(session),

@@ -4,7 +4,7 @@ ghost use Rattle.blink_batch.specs.{FitsWords};
 ghost use Rattle.blink_machine.specs.{IsUpdate};
 ghost use Rattle.blink_map.specs.{HasTried, IsAnswered, IsPendingOf, IsSessionOf, op_of, session_of};
 ghost use Rattle.blink_map.specs.declared.map.Session.{Session};
-ghost use Rattle.blink_owners.specs.Sessions.{Answers, EndsFrom, Finds, HasAnswered, HasPut, IsAdvanceRefusal, IsChangeRefusal, IsNotFree, IsNotPut, IsOfPut, IsOwnSession, IsPutRefusal, IsShortage, IsTakeRefusal, IsTellRefusal, Puts, Scans, ScansBack, StaysBusy, Takes, TellsOn, TellsStock, in_map};
+ghost use Rattle.blink_owners.specs.Sessions.{Answers, EndsFrom, Finds, HasAnswered, HasPut, IsAdvanceRefusal, IsChangeRefusal, IsEmpty, IsNotFree, IsNotPut, IsOfPut, IsOwnSession, IsPutRefusal, IsShortage, IsTakeRefusal, IsTellRefusal, Puts, Scans, ScansBack, StaysBusy, Takes, TellsOn, TellsStock, in_map};
 
 use crate::map_refusal::MapRefusal;
 use crate::raw::{RawAnswer, RawScanned, RawStock, RawTaken};
@@ -12,28 +12,28 @@ use crate::shared_map::SharedMap;
 use blink_batch::{Answer, Entry, Op};
 use blink_map::{MapError, Pending, Session, Stopped};
 use std::alloc::Global;
-use std::mem;
 use std::sync::Arc;
 
-/// A session, free or with an operation under way, which may be that of a put. Within a call it may be gone.
+/// An operation under way, which may be that of a put.
 #[derive(Drop)]
-pub enum HeldSession {
-    Free(Session),
+pub enum UnderWay {
     Busy(Pending),
     /// With the key and the pointer that are to be put.
     Putting(Pending, u64, u64),
-    Gone,
 }
 
-/// A session with an owner of its map, so that its thread needs nothing else.
+/// A session with an owner of its map, so that its thread needs nothing else. Between calls it has the session or its operation. They
+/// have a field each, so that a call moves no more than it works on: an operation is more than twice as large as a session.
 #[derive(Drop)]
 pub struct SessionOwner {
     /// The map, with the places of its sessions.
     pub shared: Arc<SharedMap>,
     /// The map's number, as it was when the session joined.
     pub number: u64,
-    /// The session, or its operation.
-    pub held: HeldSession,
+    /// The session, unless an operation of it is under way.
+    pub free: Option<Session>,
+    /// The session's operation that is under way.
+    pub under_way: Option<UnderWay>,
 }
 
 impl SessionOwner {
@@ -42,10 +42,10 @@ impl SessionOwner {
         requires its_own { IsOwnSession self.old }
         ensures its_own { IsOwnSession self.new }
         ensures found { OnOk result (Finds key self.old self.new answer.new) }
-        ensures refused { IfErr result (IsNotFree self.old.held) }
+        ensures refused { IfErr result (IsNotFree self.old.free) }
         ensures unchanged { OnErr result ((self.new ≡ self.old) × (answer.new ≡ answer.old)) }
     {
-        let HeldSession::Free(session) = &mut self.held else {
+        let Some(session) = &mut self.free else {
             return Err(MapRefusal::UnderWay);
         };
         let shown = self.shared.map.find(session, key);
@@ -65,11 +65,11 @@ impl SessionOwner {
         ensures its_own { IsOwnSession self.new }
         ensures scanned { OnOk result
             (Scans lo hi self.old self.new entries.old entries.new scanned.new) }
-        ensures refused { IfErr result (IsNotFree self.old.held) }
+        ensures refused { IfErr result (IsNotFree self.old.free) }
         ensures unchanged { OnErr result
             ((self.new ≡ self.old) × (entries.new ≡ entries.old) × (scanned.new ≡ scanned.old)) }
     {
-        let HeldSession::Free(session) = &mut self.held else {
+        let Some(session) = &mut self.free else {
             return Err(MapRefusal::UnderWay);
         };
         let came = self.shared.map.scan(session, lo, hi, entries);
@@ -89,11 +89,11 @@ impl SessionOwner {
         ensures its_own { IsOwnSession self.new }
         ensures scanned { OnOk result
             (ScansBack lo hi self.old self.new entries.old entries.new scanned.new) }
-        ensures refused { IfErr result (IsNotFree self.old.held) }
+        ensures refused { IfErr result (IsNotFree self.old.free) }
         ensures unchanged { OnErr result
             ((self.new ≡ self.old) × (entries.new ≡ entries.old) × (scanned.new ≡ scanned.old)) }
     {
-        let HeldSession::Free(session) = &mut self.held else {
+        let Some(session) = &mut self.free else {
             return Err(MapRefusal::UnderWay);
         };
         let came = self.shared.map.scan_back(session, lo, hi, entries);
@@ -118,7 +118,7 @@ impl SessionOwner {
         ensures unchanged { OnErr result
             ((entries.new ≡ entries.old) × (taken.new ≡ taken.old)) }
     {
-        let HeldSession::Free(session) = &mut self.held else {
+        let Some(session) = &mut self.free else {
             return Err(MapRefusal::UnderWay);
         };
         let (lo, hi) = range;
@@ -145,10 +145,10 @@ impl SessionOwner {
         if self.number != to.number {
             return Err(MapRefusal::Foreign);
         }
-        let HeldSession::Free(from) = &mut self.held else {
+        let Some(from) = &mut self.free else {
             return Err(MapRefusal::UnderWay);
         };
-        let HeldSession::Free(session) = &mut to.held else {
+        let Some(session) = &mut to.free else {
             return Err(MapRefusal::UnderWay);
         };
         self.shared.map.tell(from, session);
@@ -158,10 +158,10 @@ impl SessionOwner {
     /// Tells what the session has of page numbers and rows.
     pub fn stock(&self, stock: &mut RawStock) -> Result<(), MapRefusal>
         ensures told { OnOk result (TellsStock self.now stock.new) }
-        ensures refused { IfErr result (IsNotFree self.now.held) }
+        ensures refused { IfErr result (IsNotFree self.now.free) }
         ensures unchanged { OnErr result (stock.new ≡ stock.old) }
     {
-        let HeldSession::Free(session) = &self.held else {
+        let Some(session) = &self.free else {
             return Err(MapRefusal::UnderWay);
         };
         *stock = RawStock::of(self.shared.map.stock(session));
@@ -178,20 +178,22 @@ impl SessionOwner {
         ensures refused { IfErr result (IsChangeRefusal op self.old self.new) }
         ensures unchanged { OnErr result (answer.new ≡ answer.old) }
     {
-        let session = self.take_free()?;
+        let Some(session) = self.free.take() else {
+            return Err(MapRefusal::UnderWay);
+        };
         match self.shared.map.start(session, op, tries) {
             Ok((session, given)) => {
-                self.held = HeldSession::Free(session);
+                self.free = Some(session);
                 *answer = RawAnswer::of(given);
                 Ok(())
             }
             Err(Stopped::Waits(pending)) => {
-                self.held = HeldSession::Busy(pending);
+                self.under_way = Some(UnderWay::Busy(pending));
                 Err(MapRefusal::UnderWay)
             }
             Err(Stopped::Full(session)) => {
                 let refusal = shortage(&session, op);
-                self.held = HeldSession::Free(session);
+                self.free = Some(session);
                 Err(refusal)
             }
         }
@@ -212,7 +214,9 @@ impl SessionOwner {
         ensures refused { IfErr result (IsPutRefusal key pointer self.old self.new) }
         ensures unchanged { OnErr result (answer.new ≡ answer.old) }
     {
-        let session = self.take_free()?;
+        let Some(session) = self.free.take() else {
+            return Err(MapRefusal::UnderWay);
+        };
         self.put_from(session, key, pointer, tries, answer)
     }
 
@@ -220,19 +224,16 @@ impl SessionOwner {
     pub fn advance(&mut self, tries: u32, answer: &mut RawAnswer) -> Result<(), MapRefusal>
         requires its_own { IsOwnSession self.old }
         ensures its_own { IsOwnSession self.new }
-        ensures ended { OnOk result (EndsFrom self.old.held self.old self.new answer.new) }
-        ensures refused { IfErr result (IsAdvanceRefusal self.old.held self.old self.new) }
+        ensures ended { OnOk result (EndsFrom self.old.under_way self.old self.new answer.new) }
+        ensures refused { IfErr result (IsAdvanceRefusal self.old.under_way self.old self.new) }
         ensures unchanged { OnErr result (answer.new ≡ answer.old) }
     {
-        match mem::replace(&mut self.held, HeldSession::Gone) {
-            HeldSession::Busy(pending) => self.go_on(pending, tries, answer),
-            HeldSession::Putting(pending, key, pointer) => {
+        match self.under_way.take() {
+            Some(UnderWay::Busy(pending)) => self.go_on(pending, tries, answer),
+            Some(UnderWay::Putting(pending, key, pointer)) => {
                 self.put_on(pending, key, pointer, tries, answer)
             }
-            held => {
-                self.held = held;
-                Err(MapRefusal::Idle)
-            }
+            None => Err(MapRefusal::Idle),
         }
     }
 
@@ -241,8 +242,8 @@ impl SessionOwner {
     pub fn finish(&mut self, tries: u32, answer: &mut RawAnswer) -> Result<(), MapRefusal>
         requires its_own { IsOwnSession self.old }
         ensures its_own { IsOwnSession self.new }
-        ensures ended { OnOk result (EndsFrom self.old.held self.old self.new answer.new) }
-        ensures refused { IfErr result (IsAdvanceRefusal self.old.held self.old self.new) }
+        ensures ended { OnOk result (EndsFrom self.old.under_way self.old self.new answer.new) }
+        ensures refused { IfErr result (IsAdvanceRefusal self.old.under_way self.old self.new) }
         ensures unchanged { OnErr result (answer.new ≡ answer.old) }
     {
         for _ in 0..tries {
@@ -263,13 +264,8 @@ impl SessionOwner {
         let mut owner = self;
         let mut answer = RawAnswer::shown(None);
         let _outcome = owner.finish(tries, &mut answer);
-        let SessionOwner {
-            shared,
-            number: _,
-            held,
-        } = owner;
-        if let HeldSession::Free(session) = held {
-            shared.places.leave(session);
+        if let Some(session) = owner.free.take() {
+            owner.shared.places.leave(session);
         }
     }
 
@@ -280,6 +276,7 @@ impl SessionOwner {
         tries: u32,
         answer: &mut RawAnswer,
     ) -> Result<(), MapRefusal>
+        requires empty { IsEmpty self.old }
         requires its_own { IsPendingOf (in_map self.old) pending }
         ensures its_own { IsOwnSession self.new }
         ensures ended { OnOk result
@@ -290,12 +287,12 @@ impl SessionOwner {
     {
         match self.shared.map.advance(pending, tries) {
             Ok((session, given)) => {
-                self.held = HeldSession::Free(session);
+                self.free = Some(session);
                 *answer = RawAnswer::of(given);
                 Ok(())
             }
             Err(pending) => {
-                self.held = HeldSession::Busy(pending);
+                self.under_way = Some(UnderWay::Busy(pending));
                 Err(MapRefusal::UnderWay)
             }
         }
@@ -310,6 +307,7 @@ impl SessionOwner {
         tries: u32,
         answer: &mut RawAnswer,
     ) -> Result<(), MapRefusal>
+        requires empty { IsEmpty self.old }
         requires its_own { IsSessionOf (in_map self.old) session }
         ensures its_own { IsOwnSession self.new }
         ensures ended { OnOk result (HasPut key pointer session self.old self.new answer.new) }
@@ -320,7 +318,7 @@ impl SessionOwner {
         let (session, given) = self.start_by(session, key, pointer, replace, tries)?;
         match given {
             Answer::Replaced(_) => {
-                self.held = HeldSession::Free(session);
+                self.free = Some(session);
                 *answer = RawAnswer::of(given);
                 Ok(())
             }
@@ -337,6 +335,7 @@ impl SessionOwner {
         tries: u32,
         answer: &mut RawAnswer,
     ) -> Result<(), MapRefusal>
+        requires empty { IsEmpty self.old }
         requires its_own { IsSessionOf (in_map self.old) session }
         ensures its_own { IsOwnSession self.new }
         ensures ended { OnOk result ((first : Session) → HasTried first session
@@ -349,7 +348,7 @@ impl SessionOwner {
         let (session, given) = self.start_by(session, key, pointer, insert, tries)?;
         match given {
             Answer::Inserted => {
-                self.held = HeldSession::Free(session);
+                self.free = Some(session);
                 *answer = RawAnswer::of(given);
                 Ok(())
             }
@@ -366,6 +365,7 @@ impl SessionOwner {
         op: Op,
         tries: u32,
     ) -> Result<(Session, Answer), MapRefusal>
+        requires empty { IsEmpty self.old }
         requires its_own { IsSessionOf (in_map self.old) session }
         requires of_put { IsOfPut key pointer op }
         requires updates { IsUpdate op }
@@ -380,12 +380,12 @@ impl SessionOwner {
         match self.shared.map.start(session, op, tries) {
             Ok(ended) => Ok(ended),
             Err(Stopped::Waits(pending)) => {
-                self.held = HeldSession::Putting(pending, key, pointer);
+                self.under_way = Some(UnderWay::Putting(pending, key, pointer));
                 Err(MapRefusal::UnderWay)
             }
             Err(Stopped::Full(session)) => {
                 let refusal = shortage(&session, op);
-                self.held = HeldSession::Free(session);
+                self.free = Some(session);
                 Err(refusal)
             }
         }
@@ -401,6 +401,7 @@ impl SessionOwner {
         tries: u32,
         answer: &mut RawAnswer,
     ) -> Result<(), MapRefusal>
+        requires empty { IsEmpty self.old }
         requires its_own { IsPendingOf (in_map self.old) pending }
         requires of_put { IsOfPut key pointer (op_of pending) }
         ensures its_own { IsOwnSession self.new }
@@ -413,7 +414,7 @@ impl SessionOwner {
         match self.shared.map.advance(pending, tries) {
             Ok((session, given)) => match given {
                 Answer::Inserted | Answer::Replaced(_) => {
-                    self.held = HeldSession::Free(session);
+                    self.free = Some(session);
                     *answer = RawAnswer::of(given);
                     Ok(())
                 }
@@ -421,7 +422,7 @@ impl SessionOwner {
                 _ => self.put_new(session, key, pointer, tries, answer),
             },
             Err(pending) => {
-                self.held = HeldSession::Putting(pending, key, pointer);
+                self.under_way = Some(UnderWay::Putting(pending, key, pointer));
                 Err(MapRefusal::UnderWay)
             }
         }
@@ -429,6 +430,7 @@ impl SessionOwner {
 
     // Begins the replacement of a put that has found the key there.
     fn put_over(&mut self, session: Session, key: u64, pointer: u64) -> MapRefusal
+        requires empty { IsEmpty self.old }
         requires its_own { IsSessionOf (in_map self.old) session }
         ensures its_own { IsOwnSession self.new }
         ensures refused { (first : Session) → HasTried first session
@@ -437,31 +439,13 @@ impl SessionOwner {
         let replace = Op::Replace(key, pointer);
         match self.shared.map.begin(session, replace) {
             Ok(pending) => {
-                self.held = HeldSession::Putting(pending, key, pointer);
+                self.under_way = Some(UnderWay::Putting(pending, key, pointer));
                 MapRefusal::UnderWay
             }
             Err((session, _full)) => {
                 let refusal = shortage(&session, replace);
-                self.held = HeldSession::Free(session);
+                self.free = Some(session);
                 refusal
-            }
-        }
-    }
-
-    // Takes the free session out.
-    fn take_free(&mut self) -> Result<Session, MapRefusal>
-        requires its_own { IsOwnSession self.old }
-        ensures free { IfOk result (λ session. self.old.held ≡ HeldSession.Free session) }
-        ensures its_own { IfOk result (IsSessionOf (in_map self.old)) }
-        ensures gone { OnOk result (self.new ≡ record self.old { held = HeldSession.Gone }) }
-        ensures refused { IfErr result (IsNotFree self.old.held) }
-        ensures unchanged { OnErr result (self.new ≡ self.old) }
-    {
-        match mem::replace(&mut self.held, HeldSession::Gone) {
-            HeldSession::Free(session) => Ok(session),
-            held => {
-                self.held = held;
-                Err(MapRefusal::UnderWay)
             }
         }
     }

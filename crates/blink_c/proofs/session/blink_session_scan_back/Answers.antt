@@ -13,5 +13,5 @@ returns-clause-scanned c zero =
 
 pub returns-clause-refused : goal.returns-clause-refused
 returns-clause-refused c =
-    told_why code_of (IsNotFree c.args.session.now.value.held) c.scan_back.result c.code_of.result c.code_of.ensures
-    (subst (λ (owner : SessionOwner). IfErr c.scan_back.result (IsNotFree owner.held)) c.get.ensures.value c.scan_back.ensures.refused)
+    told_why code_of (IsNotFree c.args.session.now.value.free) c.scan_back.result c.code_of.result c.code_of.ensures
+    (subst (λ (owner : SessionOwner). IfErr c.scan_back.result (IsNotFree owner.free)) c.get.ensures.value c.scan_back.ensures.refused)

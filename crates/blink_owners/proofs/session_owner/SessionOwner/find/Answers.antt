@@ -9,9 +9,9 @@ use Rattle.blink_owners.proofs.session_owner.SessionOwner.find.Goals as goal
 
 pub returns-clause-found : goal.returns-clause-found
 returns-clause-found c = record {
-  before = c.in-Free.session;
+  before = c.in-Some.session;
   now = c.find-shown.new.session;
-  free = record { was = c.in-Free.is; is = refl; same = record { same_map = refl; same_number = refl } };
+  free = record { was = c.in-Some.is; is = refl; same = record { same_map = refl; same_number = refl } };
   answer = c.shown.ensures ∙ ap raw_shown (c.find-shown.ensures.state ∙ ap (λ (map : Map). after (pointer_of (opening_of map)) (seen_by c.find-shown.new.session) c.args.key) (ap (λ (s : SharedMap). s.map) c.deref.ensures));
   same = c.find-shown.ensures.same;
 }

@@ -27,7 +27,7 @@ loop-preserved c = record {
   its_own = c.advance.ensures.its_own;
   same = c.in-Err-UnderWay.ensures.unchanged ∙ c.loop.invariant.same;
   waits = inr (then_refused c.args.self.now c.loop.self c.advance.new.self refused.UnderWay c.loop.invariant.waits
-      (subst (λ (refusal : MapRefusal). IsAdvanceRefusal c.loop.self.held c.loop.self c.advance.new.self refusal) c.in-Err-UnderWay.field-0-is c.in-Err-UnderWay.ensures.refused));
+      (subst (λ (refusal : MapRefusal). IsAdvanceRefusal c.loop.self.under_way c.loop.self c.advance.new.self refusal) c.in-Err-UnderWay.field-0-is c.in-Err-UnderWay.ensures.refused));
 }
 
 pub returns-clause-ended : goal.returns-clause-ended

@@ -1,19 +1,20 @@
-use Rattle.std.proofs.Common.{◌∙◌, inr, refl, sym, ap, subst}
+use Rattle.std.proofs.Common.{◌∙◌, Some, inr, refl, sym, ap, subst}
 use Rattle.std.proofs.lemmas.Result.{err_from_is_err_and}
 use Rattle.blink_batch.specs.declared.Op.TheVariants.{Replace}
-use Rattle.blink_map.specs.{IsSessionOf}
 use Rattle.blink_map.proofs.PutsAreChanges.{tried_to_replace}
 use Rattle.blink_owners.specs.declared.session_owner.SessionOwner.{SessionOwner}
-use Rattle.blink_owners.specs.Sessions.{IsOfSameMap, in_map}
+use Rattle.blink_owners.specs.Sessions.{IsOfSameMap, IsOwnSession, in_map}
 use Rattle.blink_owners.proofs.AnswersOfPuts.{put_answered, tried_nothing}
 use Rattle.blink_owners.proofs.SessionsGoOn.{if_err, not_put_through, on_ok, put_through}
-use Rattle.blink_owners.proofs.SessionsStay.{its_still}
+use Rattle.blink_owners.proofs.SessionsStay.{its_still, own_again}
 use Rattle.blink_owners.proofs.session_owner.SessionOwner.put_from.Goals as goal
 
 pub returns-in-Replaced-clause-its_own : goal.returns-in-Replaced-clause-its_own
 returns-in-Replaced-clause-its_own c =
     let same = c.in_ok-session.ensures.ended.same_member in
-    subst (λ (owner : SessionOwner). IsSessionOf (in_map owner) c.in_ok-session.session) (sym c.in_ok-session.ensures.unchanged) (its_still (in_map c.args.self.now) c.args.session c.in_ok-session.session c.requires.its_own same.same_table same.same_plan)
+    let session = c.in_ok-session.session in
+    subst (λ (owner : SessionOwner). IsOwnSession (record owner { free = Some session })) (sym c.in_ok-session.ensures.unchanged)
+    (own_again c.args.self.now session c.requires.empty (its_still (in_map c.args.self.now) c.args.session session c.requires.its_own same.same_table same.same_plan))
 
 pub returns-in-Replaced-clause-ended : goal.returns-in-Replaced-clause-ended
 returns-in-Replaced-clause-ended c =

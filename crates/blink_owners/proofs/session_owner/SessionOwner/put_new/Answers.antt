@@ -6,7 +6,7 @@ use Rattle.blink_map.specs.{IsAnswered, IsSessionOf}
 use Rattle.blink_map.proofs.PutsAreChanges.{put_by_insertion, put_then, tried_to_insert, tried_twice}
 use Rattle.blink_owners.specs.Raw.{raw_answer}
 use Rattle.blink_owners.specs.declared.session_owner.SessionOwner.{SessionOwner}
-use Rattle.blink_owners.specs.Sessions.{IsOfSameMap, in_map}
+use Rattle.blink_owners.specs.Sessions.{IsEmpty, IsOfSameMap, in_map}
 use Rattle.blink_owners.proofs.SessionsGoOn.{not_put_through}
 use Rattle.blink_owners.proofs.SessionsStay.{its_still}
 use Rattle.blink_owners.proofs.session_owner.SessionOwner.put_new.Goals as goal
@@ -15,6 +15,7 @@ pub put_over-requires : goal.put_over-requires
 put_over-requires c =
     let same = c.in_ok-session.ensures.ended.same_member in
     record {
+      empty = subst IsEmpty (sym c.in_ok-session.ensures.unchanged) c.requires.empty;
       its_own = subst (λ (owner : SessionOwner). IsSessionOf (in_map owner) c.in_ok-session.session) (sym c.in_ok-session.ensures.unchanged) (its_still (in_map c.args.self.now) c.args.session c.in_ok-session.session c.requires.its_own same.same_table same.same_plan);
     }
 

@@ -1,4 +1,4 @@
-use Rattle.std.proofs.Common.{inr, refl, sym, subst, ap}
+use Rattle.std.proofs.Common.{Some, inr, refl, sym, subst, ap}
 use Rattle.blink_batch.specs.declared.Op.{Op}
 use Rattle.blink_batch.specs.declared.Op.TheVariants.{Replace}
 use Rattle.blink_map.specs.declared.map.Map.{Map}
@@ -8,7 +8,6 @@ use Rattle.blink_map.specs.{HasTried, IsPendingOf}
 use Rattle.blink_map.proofs.PutsAreChanges.{tried_in_vain, tried_twice}
 use Rattle.blink_owners.specs.Sessions.{IsOfPut}
 use Rattle.blink_owners.proofs.SessionsGoOn.{not_put_for_room}
-use Rattle.blink_owners.specs.declared.session_owner.HeldSession.TheVariants.{Free}
 use Rattle.blink_owners.proofs.session_owner.SessionOwner.put_over.Goals as goal
 
 pub returns-in-Ok-clause-refused : goal.returns-in-Ok-clause-refused
@@ -26,7 +25,7 @@ returns-in-Ok-clause-refused c first tried =
 pub returns-in-Err-clause-refused : goal.returns-in-Err-clause-refused
 returns-in-Err-clause-refused c first tried =
     let in_vain = tried_in_vain c.args.session c.in-Err.session c.in-Err.ensures.unchanged in
-    not_put_for_room c.args.key c.args.pointer first c.args.self.now (record c.args.self.now { held = Free c.in-Err.session }) c.shortage-refusal.result (record {
+    not_put_for_room c.args.key c.args.pointer first c.args.self.now (record c.args.self.now { free = Some c.in-Err.session }) c.shortage-refusal.result (record {
       now = c.in-Err.session;
       is = refl;
       same = record { same_map = refl; same_number = refl };

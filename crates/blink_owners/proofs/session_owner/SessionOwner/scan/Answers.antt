@@ -8,13 +8,13 @@ use Rattle.blink_owners.proofs.session_owner.SessionOwner.scan.Goals as goal
 pub returns-clause-scanned : goal.returns-clause-scanned
 returns-clause-scanned c =
     let scan = c.scan-came.ensures in record {
-      before = c.in-Free.session;
+      before = c.in-Some.session;
       now = c.scan-came.new.session;
-      free = record { was = c.in-Free.is; is = refl; same = record { same_map = refl; same_number = refl } };
+      free = record { was = c.in-Some.is; is = refl; same = record { same_map = refl; same_number = refl } };
       reported = record {
         scanned = c.scan-came.result;
         told = c.of.ensures;
-        report = subst (λ (map : Map). IsReport (opening_of map) (seen_by c.in-Free.session) (seen_by c.scan-came.new.session) c.args.lo (stop_of c.args.hi c.scan-came.result.next) (take c.scan-came.result.filled c.scan-came.new.into)) (ap (λ (s : SharedMap). s.map) c.deref.ensures) scan.report;
+        report = subst (λ (map : Map). IsReport (opening_of map) (seen_by c.in-Some.session) (seen_by c.scan-came.new.session) c.args.lo (stop_of c.args.hi c.scan-came.result.next) (take c.scan-came.result.filled c.scan-came.new.into)) (ap (λ (s : SharedMap). s.map) c.deref.ensures) scan.report;
         stopped = scan.stopped;
         filled = scan.filled;
         others = scan.others;

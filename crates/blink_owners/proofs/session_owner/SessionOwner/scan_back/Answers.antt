@@ -8,13 +8,13 @@ use Rattle.blink_owners.proofs.session_owner.SessionOwner.scan_back.Goals as goa
 pub returns-clause-scanned : goal.returns-clause-scanned
 returns-clause-scanned c =
     let scan = c.scan_back-came.ensures in record {
-      before = c.in-Free.session;
+      before = c.in-Some.session;
       now = c.scan_back-came.new.session;
-      free = record { was = c.in-Free.is; is = refl; same = record { same_map = refl; same_number = refl } };
+      free = record { was = c.in-Some.is; is = refl; same = record { same_map = refl; same_number = refl } };
       reported = record {
         scanned = c.scan_back-came.result;
         told = c.of.ensures;
-        report = subst (λ (map : Map). IsReportBack (opening_of map) (seen_by c.in-Free.session) (seen_by c.scan_back-came.new.session) (start_of c.args.lo c.scan_back-came.result.next) c.args.hi (take c.scan_back-came.result.filled c.scan_back-came.new.into)) (ap (λ (s : SharedMap). s.map) c.deref.ensures) scan.report;
+        report = subst (λ (map : Map). IsReportBack (opening_of map) (seen_by c.in-Some.session) (seen_by c.scan_back-came.new.session) (start_of c.args.lo c.scan_back-came.result.next) c.args.hi (take c.scan_back-came.result.filled c.scan_back-came.new.into)) (ap (λ (s : SharedMap). s.map) c.deref.ensures) scan.report;
         stopped = scan.stopped;
         filled = scan.filled;
         others = scan.others;

@@ -1,9 +1,8 @@
-use Rattle.std.proofs.Common.{refl, sym, subst}
+use Rattle.std.proofs.Common.{Some, refl, sym, subst}
 use Rattle.blink_batch.specs.declared.Op.{Op}
 use Rattle.blink_map.specs.declared.map.Session.{Session}
 use Rattle.blink_map.specs.{HasStopped, HasTried, IsAnswered, IsPendingOf, LacksKeyOf}
 use Rattle.blink_map.proofs.PutsAreChanges.{tried_by, tried_twice}
-use Rattle.blink_owners.specs.declared.session_owner.HeldSession.TheVariants.{Free}
 use Rattle.blink_owners.specs.declared.shared_map.SharedMap.{SharedMap}
 use Rattle.blink_owners.specs.Sessions.{IsOfPut, in_map}
 use Rattle.blink_owners.proofs.SessionsGoOn.{absent_before, not_put_for_room}
@@ -28,7 +27,7 @@ pub returns-in-Err-Full-clause-refused : goal.returns-in-Err-Full-clause-refused
 returns-in-Err-Full-clause-refused c first tried =
     let now = c.in-Err-Full.session in
     let stopped = subst (HasStopped c.deref.result.now.map c.args.op c.args.session) c.in-Err-Full.field-0-is c.in-Err-Full.ensures.stopped in
-    not_put_for_room c.args.key c.args.pointer first c.args.self.now (record c.args.self.now { held = Free now }) c.shortage-refusal.result (record {
+    not_put_for_room c.args.key c.args.pointer first c.args.self.now (record c.args.self.now { free = Some now }) c.shortage-refusal.result (record {
       now = now;
       is = refl;
       same = record { same_map = refl; same_number = refl };
