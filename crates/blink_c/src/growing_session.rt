@@ -5,7 +5,7 @@ ghost use Rattle.blink_batch.specs.declared.Op.TheVariants.{Delete, DeleteExact,
 ghost use Rattle.blink_map.specs.{IsUpdate};
 ghost use Rattle.blink_owners.specs.Codes.{TellsWhy};
 ghost use Rattle.blink_owners.specs.GrowCodes.{code_of};
-ghost use Rattle.blink_owners.specs.GrowingSessions.{EndsFrom, Finds, IsAdvanceRefusal, IsAway, IsLetGo, IsOwnSession, IsTakeRefusal, KnowsSame, Scans, ScansBack, SeesMore, Takes};
+ghost use Rattle.blink_owners.specs.GrowingSessions.{EndsFrom, Finds, IsAdvanceRefusal, IsAway, IsOwnSession, IsTakeRefusal, KnowsSame, Scans, ScansBack, SeesMore, Takes};
 ghost use Rattle.blink_c.specs.Changing.{ChangesGrowing};
 
 use crate::growing_session_handle::GrowingSessionHandle;
@@ -227,9 +227,9 @@ pub extern "C" fn blink_growing_session_advance(
     requires its_own { IsOwnSession session.old.value }
     ensures its_own { IsOwnSession session.new.value }
     ensures ended { result ≡ 0
-        → EndsFrom session.old.value.held session.old.value session.new.value answer.new }
+        → EndsFrom session.old.value.under_way session.old.value session.new.value answer.new }
     ensures refused { TellsWhy code_of
-        (IsAdvanceRefusal session.old.value.held session.old.value session.new.value) result }
+        (IsAdvanceRefusal session.old.value.under_way session.old.value session.new.value) result }
     ensures unchanged { result ≢ 0 → answer.new ≡ answer.old }
 {
     code_of(&session.get().advance(tries, answer))
@@ -253,7 +253,7 @@ pub extern "C" fn blink_growing_session_let_go(session: &mut GrowingSessionHandl
     requires its_own { IsOwnSession session.old.value }
     ensures its_own { IsOwnSession session.new.value }
     ensures same { KnowsSame session.old.value session.new.value }
-    ensures goes_on { IsLetGo session.old.value.held session.new.value.held }
+    ensures goes_on { session.new.value.under_way ≡ session.old.value.under_way }
 {
     session.get().let_go();
 }

@@ -18,7 +18,6 @@ use Rattle.blink_map.specs.contracts.map.Map as Map
 use Rattle.std.specs.contracts.option.Option as Option
 use Rattle.std.proofs.option.Option.TheSendSync as option
 use Rattle.blink_owners.specs.contracts.growing_owner.GrowingOwner as GrowingOwner
-use Rattle.blink_owners.specs.contracts.growing_session_owner.GrowingHeld as GrowingHeld
 use Rattle.blink_owners.specs.contracts.growing_session_owner.GrowingSessionOwner as GrowingSessionOwner
 use Rattle.blink_owners.specs.contracts.shared_growing.GrowingState as State
 use Rattle.blink_owners.specs.contracts.shared_growing.SharedGrowing as SharedGrowing
@@ -39,9 +38,15 @@ pending =
       (search sendable, (heap.Arc-send Map.the_row map.the_send map.the_sync, (search sendable, (pending_send, (search (sendable, crosses) depth 12, tt))))),
     )
 
-at_hand : IsSend (GrowingHeld.the_field).row
-at_hand = enum_send (enum.shape GrowingHeld.the_type) ((session.the_field_send, tt), ((held.the_field_send, tt), ((pending, tt), (tt, tt))))
-
 pub session_owner_send : IsSend GrowingSessionOwner.the_row
 session_owner_send = recorded_send (GrowingSessionOwner.the_field).row _ _ (GrowingSessionOwner.the_type).to_one
-    (struct_send (struct.shape GrowingSessionOwner.the_type) (heap.Arc-send SharedGrowing.the_row shared.the_send shared.the_sync, (search sendable, (at_hand, tt))))
+    (struct_send (struct.shape GrowingSessionOwner.the_type) (
+      heap.Arc-send SharedGrowing.the_row shared.the_send shared.the_sync,
+      (
+        search sendable,
+        (
+          search (sendable, crosses, session.the_field_send) depth 12,
+          (search (sendable, crosses, held.the_field_send) depth 12, (search (sendable, crosses, pending) depth 12, tt)),
+        ),
+      ),
+    ))

@@ -1,6 +1,9 @@
 -- What a session of a growing map knows goes on from call to call.
-use Rattle.std.proofs.Common.{◌≡◌, ◌∙◌, List, ◌++◌, append_assoc, append-nil, [], ap, inl, inr, refl, sym, subst}
+use Rattle.std.proofs.Common.{◌≡◌, ◌∙◌, ◌||◌, Bool, IfSome, false, true, Option, Some, None, is_some, is_none, List, ◌++◌, append_assoc, append-nil, [], ap, inl, inr, refl, sym, subst}
 use mathlib.Core.List.{IsPrefix}
+use Rattle.std.specs.Arc.{arc_value}
+use Rattle.std.specs.declared.alloc.Global.{Global}
+use Rattle.std.specs.declared.sync.Arc.{Arc}
 use Rattle.blink_batch.specs.declared.Answer.{Answer}
 use Rattle.blink_batch.specs.declared.Entry.{Entry}
 use Rattle.blink_batch.specs.declared.Op.{Op}
@@ -10,17 +13,17 @@ use Rattle.blink_grow.specs.declared.error.GrowError.TheVariants as grow
 use Rattle.blink_grow.specs.declared.growing.GrowingMap.{GrowingMap}
 use Rattle.blink_grow.specs.declared.growing.Session.{Session}
 use Rattle.blink_grow.specs.declared.held.Held.{Held}
+use Rattle.blink_grow.specs.declared.held.PendingHeld.{PendingHeld}
 use Rattle.blink_grow.specs.declared.slots.Known.{Known}
-use Rattle.blink_grow.specs.{AnswersFrom, HasSamePlace, IsAnsweredHeld, IsContinued, IsHeldOf, IsRefusal, IsSameSession, IsSessionOf, known_by, opening_of, place_of_held}
+use Rattle.blink_grow.specs.{AnswersFrom, HasSamePlace, HasSameSlot, IsAnsweredHeld, IsContinued, IsHeldOf, IsHeldOn, IsPendingOf, IsRefusal, IsSameBesideSeen, IsSameSession, IsSessionOf, held_of, known_by, known_to, opening_of, place_of_held}
 use Rattle.blink_owners.specs.declared.grow_refusal.GrowRefusal.{GrowRefusal}
 use Rattle.blink_owners.specs.declared.grow_refusal.GrowRefusal.TheVariants as refused
 use Rattle.blink_owners.specs.declared.growing_session_owner.GrowingSessionOwner.{GrowingSessionOwner}
+use Rattle.blink_owners.specs.declared.shared_growing.SharedGrowing.{SharedGrowing}
 use Rattle.blink_owners.specs.GrowCodes.{refusal_of}
 use Rattle.blink_owners.specs.declared.raw.RawAnswer.{RawAnswer}
 use Rattle.blink_owners.specs.Raw.{raw_answer}
-use Rattle.blink_owners.specs.declared.growing_session_owner.GrowingHeld.{GrowingHeld}
-use Rattle.blink_owners.specs.declared.growing_session_owner.GrowingHeld.TheVariants as state
-use Rattle.blink_owners.specs.GrowingSessions.{Answers, HasAnswered, IsAtHand, IsAway, IsChangeRefusal, IsGripped, IsRested, IsUnderWay, KnowsSame, SeesMore, StaysAtHand, in_growing, known_in, place_in}
+use Rattle.blink_owners.specs.GrowingSessions.{Answers, HasAnswered, IsAtHand, IsAway, IsChangeRefusal, IsEmpty, IsGripped, IsOwnSession, IsRested, IsTakenOut, KnowsSame, SeesMore, StaysAtHand, in_growing, known_in, known_of, place_among, place_in}
 
 pub prefix_through : {A : Type 0} (old mid new : List A) → IsPrefix old mid → IsPrefix mid new → IsPrefix old new
 prefix_through {A} old mid new one other = (one.0 ++ other.0, sym (append_assoc old one.0 other.0) ∙ (ap (λ (l : List A). l ++ other.0) one.1 ∙ other.1))
@@ -56,30 +59,132 @@ held_of_map map old new its same = record { same_table = same.same_table ∙ its
 pub session_of_map : (map : GrowingMap) (old new : Session) → IsSessionOf map old → IsSameSession old new → IsSessionOf map new
 session_of_map map old new its same = record { same_table = same.same_slot.same_table ∙ its.same_table; same_first = same.same_slot.same_first ∙ its.same_first }
 
+-- ---- what is there, and what isn't
+
+-- where an operation is under way, no session is there
+module _ (owner : GrowingSessionOwner) (pending : PendingHeld) (its : IsOwnSession owner) (is : owner.under_way ≡ Some pending) where
+  none_else : (free : Option Session) (held : Option Held) → (is_some free || is_some held) ≡ false → (free ≡ None) × (held ≡ None)
+  none_else None None neither = (refl, refl)
+  none_else None (Some held) neither = absurd (cc neither)
+  none_else (Some session) held neither = absurd (cc neither)
+
+  pub not_at_hand : (owner.free ≡ None) × (owner.held ≡ None)
+  not_at_hand = none_else owner.free owner.held (its.one ∙ ap is_none is)
+
+  pub knows_from : known_in owner ≡ known_by (held_of pending)
+  knows_from = λ i. known_of (not_at_hand.0 i) (not_at_hand.1 i) (is i)
+
+  pub place_from : place_in owner ≡ place_of_held (held_of pending)
+  place_from = λ i. place_among (not_at_hand.0 i) (not_at_hand.1 i) (is i)
+
+pub map_taken : {old new : GrowingSessionOwner} → IsTakenOut old new → in_growing new ≡ in_growing old
+map_taken taken = ap (λ (shared : Arc SharedGrowing Global). (arc_value shared).map) taken.same_map
+
+-- ---- a session that reads where it is
+
+-- one that is free, or held, has no operation under way
+idle : (any : Bool) (under_way : Option PendingHeld) → any ≡ is_none under_way → any ≡ true → is_some under_way ≡ false
+idle any None one there = refl
+idle any (Some pending) one there = absurd (cc (one, there))
+
+busy : (under_way : Option PendingHeld) → false ≡ is_none under_way → is_some under_way ≡ true
+busy None is = absurd (cc is)
+busy (Some pending) is = refl
+
+module _ (old : GrowingSessionOwner) (its : IsOwnSession old) where
+  module _ (before now : Session) (is : old.free ≡ Some before) where
+    abbrev pub free_now : GrowingSessionOwner
+    free_now = record old { free = Some now }
+
+    free_idle : is_some old.under_way ≡ false
+    free_idle = idle (is_some old.free || is_some old.held) old.under_way its.one (ap (λ (free : Option Session). is_some free || is_some old.held) is)
+
+    pub was_free : known_in old ≡ known_to before
+    was_free = λ i. known_of (is i) old.held old.under_way
+
+    free_place : HasSameSlot before now → place_in free_now ≡ place_in old
+    free_place same = same.same_place ∙ sym (λ i. place_among (is i) old.held old.under_way)
+
+    pub sees_free : IsSameBesideSeen before now → SeesMore old free_now
+    sees_free same = record {
+      same = record { same_map = refl; same_place = free_place same.same_slot };
+      at_hand = record { was = free_idle; is = free_idle };
+      knows = subst (λ (known : Known). IsContinued known (known_to now)) (sym was_free) (record { saw = same.saw; made = sym same.made });
+    }
+
+    pub away_free : IsSameSession before now → IsAway old free_now refused.Busy
+    away_free same = record {
+      stays = record {
+        same = record { same_map = refl; same_place = free_place same.same_slot };
+        knows = (λ i. record { seen = same.seen i; made = same.made i }) ∙ sym was_free;
+      };
+      why = inl (refl, record { was = free_idle; is = free_idle });
+    }
+
+  module _ (before now : Held) (not_free : old.free ≡ None) (is : old.held ≡ Some before) where
+    abbrev pub held_now : GrowingSessionOwner
+    held_now = record old { held = Some now }
+
+    held_idle : is_some old.under_way ≡ false
+    held_idle = idle (is_some old.free || is_some old.held) old.under_way its.one (λ i. is_some (not_free i) || is_some (is i))
+
+    pub was_held : known_in old ≡ known_by before
+    was_held = λ i. known_of (not_free i) (is i) old.under_way
+
+    pub held_knows : known_in held_now ≡ known_by now
+    held_knows = λ i. known_of (not_free i) (Some now) old.under_way
+
+    pub sees_held : IsHeldOn before now → SeesMore old held_now
+    sees_held on = record {
+      same = record {
+        same_map = refl;
+        same_place = (λ i. place_among (not_free i) (Some now) old.under_way) ∙ (on.same_place.same_place ∙ sym (λ i. place_among (not_free i) (is i) old.under_way));
+      };
+      at_hand = record { was = held_idle; is = held_idle };
+      knows = subst (λ (x : Known × Known). IsContinued x.0 x.1) (λ i. (sym was_held i, sym held_knows i)) on.knows;
+    }
+
+  -- where neither is there, an operation is under way
+  pub away_busy : old.free ≡ None → old.held ≡ None → IsAway old old refused.UnderWay
+  away_busy not_free not_held = record {
+    stays = record { same = record { same_map = refl; same_place = refl }; knows = refl };
+    why = inr (refl, busy old.under_way (sym (λ i. is_some (not_free i) || is_some (not_held i)) ∙ its.one), refl);
+  }
+
+-- where nothing is there, a session of the map is put back
+pub own_again : (owner : GrowingSessionOwner) (session : Session) → IsEmpty owner → IsSessionOf (in_growing owner) session → IsOwnSession (record owner { free = Some session })
+own_again owner session empty its = record {
+  its_session = its;
+  its_held = subst (λ (held : Option Held). IfSome held (IsHeldOf (in_growing owner))) (sym empty.not_held) tt;
+  its_operation = subst (λ (doing : Option PendingHeld). IfSome doing (IsPendingOf (in_growing owner))) (sym empty.no_operation) tt;
+  one = ap is_none (sym empty.no_operation);
+  not_two = ap is_some empty.not_held;
+}
+
 -- ---- a session that is held for a call
 
 -- what a call has made of the held session is what the owner knows, once it is put back
-pub known_at_rest : (old mid new : GrowingSessionOwner) (held now : Held) → IsGripped old.held held → in_growing mid ≡ in_growing old → IsContinued (known_by held) (known_by now)
+pub known_at_rest : (old mid new : GrowingSessionOwner) (held now : Held) → IsGripped old held → in_growing mid ≡ in_growing old → IsContinued (known_by held) (known_by now)
     → place_of_held now ≡ place_of_held held → IsRested now mid new → SeesMore old new
 known_at_rest old mid new held now gripped same on place rested = record {
   at_hand = record { was = gripped.at_hand; is = rested.at_hand };
   same = record { same_map = rested.same_map ∙ same; same_place = rested.same_place ∙ (place ∙ gripped.same_place) };
-  knows = subst (λ (known : Known). IsContinued (known_in old.held) known) (sym rested.knows)
-      (continued_through (known_in old.held) (known_by held) (known_by now) gripped.knows on);
+  knows = subst (λ (known : Known). IsContinued (known_in old) known) (sym rested.knows)
+      (continued_through (known_in old) (known_by held) (known_by now) gripped.knows on);
 }
 
 -- an operation of a held session, of this place, has ended, and the session is put back
-pub ended_at_rest : (old mid new : GrowingSessionOwner) (op : Op) (held now : Held) (answer : Answer) (given : RawAnswer) (before : Known) → place_of_held held ≡ place_in old.held → IsContinued before (known_by held)
-    → in_growing mid ≡ in_growing old → IsAnsweredHeld (in_growing old) op held now answer → IsRested now mid new → given ≡ raw_answer answer → HasAnswered op (place_in old.held) before old new given
+pub ended_at_rest : (old mid new : GrowingSessionOwner) (op : Op) (held now : Held) (answer : Answer) (given : RawAnswer) (before : Known) → place_of_held held ≡ place_in old → IsContinued before (known_by held)
+    → in_growing mid ≡ in_growing old → IsAnsweredHeld (in_growing old) op held now answer → IsRested now mid new → given ≡ raw_answer answer → HasAnswered op (place_in old) before old new given
 ended_at_rest old mid new op held now answer given before place knows same answered rested is =
     let order = answers_sooner (opening_of (in_growing old)) op (place_of_held held) before (known_by held) (known_by now) answer knows answered.in_order in
-    let here : AnswersFrom (opening_of (in_growing old)) op (place_in old.held) before (known_by now) answer =
+    let here : AnswersFrom (opening_of (in_growing old)) op (place_in old) before (known_by now) answer =
     subst (λ (place : ℕ). AnswersFrom (opening_of (in_growing old)) op place before (known_by now) answer) place order in
     record {
       at_hand = rested.at_hand;
       answer = answer;
       its_answer = is;
-      in_order = subst (λ (known : Known). AnswersFrom (opening_of (in_growing old)) op (place_in old.held) before known answer) (sym rested.knows) here;
+      in_order = subst (λ (known : Known). AnswersFrom (opening_of (in_growing old)) op (place_in old) before known answer) (sym rested.knows) here;
       same = record { same_map = rested.same_map ∙ same; same_place = rested.same_place ∙ (answered.same_place.same_place ∙ place) };
     }
 
@@ -87,22 +192,22 @@ pub sees_through : (old mid new : GrowingSessionOwner) → SeesMore old mid → 
 sees_through old mid new one other = record {
   same = record { same_map = other.same.same_map ∙ one.same.same_map; same_place = other.same.same_place ∙ one.same.same_place };
   at_hand = record { was = one.at_hand.was; is = other.at_hand.is };
-  knows = continued_through (known_in old.held) (known_in mid.held) (known_in new.held) one.knows other.knows;
+  knows = continued_through (known_in old) (known_in mid) (known_in new) one.knows other.knows;
 }
 
 -- one that is at hand has seen what it has seen
-pub sees_itself : (owner : GrowingSessionOwner) → IsAtHand owner.held → SeesMore owner owner
+pub sees_itself : (owner : GrowingSessionOwner) → IsAtHand owner → SeesMore owner owner
 sees_itself owner at_hand = record {
   same = record { same_map = refl; same_place = refl };
   at_hand = record { was = at_hand; is = at_hand };
-  knows = continued_same (known_in owner.held) (known_in owner.held) refl;
+  knows = continued_same (known_in owner) (known_in owner) refl;
 }
 
 pub sees_same : (old new : GrowingSessionOwner) → StaysAtHand old new → KnowsSame old new → SeesMore old new
 sees_same old new at_hand knows = record {
   same = knows.same;
   at_hand = at_hand;
-  knows = continued_same (known_in old.held) (known_in new.held) knows.knows;
+  knows = continued_same (known_in old) (known_in new) knows.knows;
 }
 
 -- an answer after renewals is one to him who began
@@ -110,27 +215,20 @@ pub answers_through : (old mid new : GrowingSessionOwner) (op : Op) (given : Raw
 answers_through old mid new op given sees answers =
     let ended = answers.ended in
     let opening : opening_of (in_growing mid) ≡ opening_of (in_growing old) = ap opening_of sees.same.same_map in
-    let order = subst (λ (first : List Entry). AnswersFrom first op (place_in mid.held) (known_in mid.held) (known_in new.held) ended.answer) opening ended.in_order in
-    let here = subst (λ (place : ℕ). AnswersFrom (opening_of (in_growing old)) op place (known_in mid.held) (known_in new.held) ended.answer) sees.same.same_place order in
+    let order = subst (λ (first : List Entry). AnswersFrom first op (place_in mid) (known_in mid) (known_in new) ended.answer) opening ended.in_order in
+    let here = subst (λ (place : ℕ). AnswersFrom (opening_of (in_growing old)) op place (known_in mid) (known_in new) ended.answer) sees.same.same_place order in
     record {
       was = sees.at_hand.was;
       ended = record {
         at_hand = ended.at_hand;
         answer = ended.answer;
         its_answer = ended.its_answer;
-        in_order = answers_sooner (opening_of (in_growing old)) op (place_in old.held) (known_in old.held) (known_in mid.held) (known_in new.held) ended.answer sees.knows here;
+        in_order = answers_sooner (opening_of (in_growing old)) op (place_in old) (known_in old) (known_in mid) (known_in new) ended.answer sees.knows here;
         same = record { same_map = ended.same.same_map ∙ sees.same.same_map; same_place = ended.same.same_place ∙ sees.same.same_place };
       };
     }
 
 -- ---- why a change isn't made
-
--- no operation is under way where the session is at hand
-not_both : (held : GrowingHeld) → IsAtHand held → IsUnderWay held → ⊥
-not_both (state.Free session) at_hand under_way = under_way
-not_both (state.Held held) at_hand under_way = under_way
-not_both (state.Busy pending) at_hand under_way = at_hand
-not_both state.Gone at_hand under_way = at_hand
 
 -- a session that can't be held changes nothing
 pub away_refuses : (op : Op) (old new : GrowingSessionOwner) (refusal : GrowRefusal) → IsAway old new refusal → IsChangeRefusal op old new refusal
@@ -146,9 +244,9 @@ refused_through op old mid new refused.UnderWay sees (inl busy) = inl (record {
   is = busy.is;
   same_op = busy.same_op;
   same = record { same_map = busy.same.same_map ∙ sees.same.same_map; same_place = busy.same.same_place ∙ sees.same.same_place };
-  knows = continued_through (known_in old.held) (known_in mid.held) (known_in new.held) sees.knows busy.knows;
+  knows = continued_through (known_in old) (known_in mid) (known_in new) sees.knows busy.knows;
 })
-refused_through op old mid new refused.UnderWay sees (inr under_way) = absurd (not_both mid.held sees.at_hand.is under_way.0)
+refused_through op old mid new refused.UnderWay sees (inr under_way) = absurd (cc (sees.at_hand.is, under_way.0))
 refused_through op old mid new refused.OutOfMemory sees why = (why.0, sees_through old mid new sees why.1)
 refused_through op old mid new refused.TooLarge sees why = (why.0, sees_through old mid new sees why.1)
 refused_through op old mid new refused.Sessions sees why = (why.0, sees_through old mid new sees why.1)
@@ -167,3 +265,6 @@ not_renewed op old new grow.Busy is sees = (inr (inr (inl refl)), sees)
 not_renewed op old new grow.Sessions (inl is) sees = absurd (cc is)
 not_renewed op old new grow.Sessions (inr (inl is)) sees = absurd (cc is)
 not_renewed op old new grow.Sessions (inr (inr is)) sees = absurd (cc is)
+
+-- what a change makes of its renewals
+pub ruleset renewals = (answers_through, refused_through, not_renewed, sees_through, sees_itself)

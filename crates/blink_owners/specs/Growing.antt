@@ -1,5 +1,5 @@
 -- A growing map behind a handle: what the calls make of it, and why they are refused.
-use Rattle.std.specs.Prelude.{◌≡◌, ◌⊎◌, ℕ, List, All, ⊤}
+use Rattle.std.specs.Prelude.{◌≡◌, ◌⊎◌, ℕ, List, All, Some, ⊤}
 use Rattle.std.specs.Arc.{arc_value}
 use Rattle.blink_batch.specs.declared.Entry.{Entry}
 use Rattle.blink_grow.specs.declared.growing.GrowingMap.{GrowingMap}
@@ -8,7 +8,6 @@ use Rattle.blink_grow.specs.{IsClosedWith, IsSessionOf, opening_of, places_of}
 use Rattle.blink_owners.specs.declared.grow_refusal.GrowRefusal.{GrowRefusal}
 use Rattle.blink_owners.specs.declared.grow_refusal.GrowRefusal.TheVariants as refused
 use Rattle.blink_owners.specs.declared.growing_owner.GrowingOwner.{GrowingOwner}
-use Rattle.blink_owners.specs.declared.growing_session_owner.GrowingHeld.TheVariants.{Free}
 use Rattle.blink_owners.specs.declared.growing_session_owner.GrowingSessionOwner.{GrowingSessionOwner}
 use Rattle.blink_owners.specs.declared.shared_growing.GrowingState.{GrowingState}
 use Rattle.blink_owners.specs.declared.shared_growing.GrowingState.TheVariants.{Open, Unclosed, Closed}
@@ -57,7 +56,7 @@ IsShareFault refusal = (refusal ≡ refused.OutOfMemory) ⊎ (refusal ≡ refuse
 -- the new handle has a session of the map
 pub record Joins (owner : GrowingOwner) (given : GrowingSessionOwner) : Type 0 where
   pub session : Session
-  pub free : given.held ≡ Free session
+  pub free : given.free ≡ Some session
   pub its_own : IsSessionOf (growing_in owner) session
   pub one_map : in_growing given ≡ growing_in owner
 

@@ -1,6 +1,6 @@
 -- A session of a growing map behind a handle: what the calls make of it, and why they are refused. What a session has seen and made is
 -- what it knows (`Known`), whether it is free, held, or has an operation under way.
-use Rattle.std.specs.Prelude.{◌≡◌, ◌⊎◌, ℕ, List, [], ⊤}
+use Rattle.std.specs.Prelude.{◌≡◌, ◌⊎◌, ◌||◌, ◌&&◌, ℕ, false, Option, Some, None, IfSome, IsNone, IsSome, List, [], is_none, is_some}
 use Rattle.std.specs.Arc.{arc_value}
 use Rattle.blink_batch.specs.declared.Answer.{Answer}
 use Rattle.blink_batch.specs.declared.Entry.{Entry}
@@ -9,6 +9,7 @@ use Rattle.blink_batch.specs.{pointer_of}
 use Rattle.blink_live.specs.{after}
 use Rattle.blink_grow.specs.declared.growing.GrowingMap.{GrowingMap}
 use Rattle.blink_grow.specs.declared.held.Held.{Held}
+use Rattle.blink_grow.specs.declared.growing.Session.{Session}
 use Rattle.blink_grow.specs.declared.held.PendingHeld.{PendingHeld}
 use Rattle.blink_grow.specs.declared.slots.Known.{Known}
 use Rattle.blink_grow.specs.{AnswersFrom, IsContinued, IsHeldOf, IsPendingOf, IsSessionOf, held_of, known_by, known_to, op_of, opening_of, place_of, place_of_held}
@@ -17,9 +18,6 @@ use Rattle.blink_owners.specs.declared.raw.RawScanned.{RawScanned}
 use Rattle.blink_owners.specs.declared.raw.RawTaken.{RawTaken}
 use Rattle.blink_owners.specs.declared.grow_refusal.GrowRefusal.{GrowRefusal}
 use Rattle.blink_owners.specs.declared.grow_refusal.GrowRefusal.TheVariants as refused
-use Rattle.blink_owners.specs.declared.growing_session_owner.GrowingHeld.{GrowingHeld}
-use Rattle.blink_owners.specs.declared.growing_session_owner.GrowingHeld.TheVariants as state
-use Rattle.blink_owners.specs.declared.growing_session_owner.GrowingHeld.TheVariants.{Free, Busy, Gone}
 use Rattle.blink_owners.specs.declared.growing_session_owner.GrowingSessionOwner.{GrowingSessionOwner}
 use Rattle.blink_owners.specs.declared.growing_session_owner.NotMade.{NotMade}
 use Rattle.blink_owners.specs.declared.growing_session_owner.NotMade.TheVariants.{Refused, Full}
@@ -30,111 +28,119 @@ use Rattle.blink_owners.specs.Reports.{HasReported, HasReportedBack, TellsTaken}
 abbrev pub in_growing : GrowingSessionOwner → GrowingMap
 in_growing owner = (arc_value owner.shared).map
 
--- what is held is of this map, and between two calls there is always something
-abbrev pub IsHeldBy : GrowingMap → GrowingHeld → Type 0
-IsHeldBy map (Free session) = IsSessionOf map session
-IsHeldBy map (state.Held held) = IsHeldOf map held
-IsHeldBy map (Busy pending) = IsPendingOf map pending
-IsHeldBy map Gone = ⊥
+-- a handle that a call has filled has a session of its map, free or held, or its operation: one of the three is always there between
+-- calls, and never two
+pub record IsOwnSession (owner : GrowingSessionOwner) : Type 0 where
+  pub its_session : IfSome owner.free (IsSessionOf (in_growing owner))
+  pub its_held : IfSome owner.held (IsHeldOf (in_growing owner))
+  pub its_operation : IfSome owner.under_way (IsPendingOf (in_growing owner))
+  pub one : (is_some owner.free || is_some owner.held) ≡ is_none owner.under_way
+  pub not_two : (is_some owner.free && is_some owner.held) ≡ false
 
--- a handle that a call has filled holds what is of its map
-abbrev pub IsOwnSession : GrowingSessionOwner → Type 0
-IsOwnSession owner = IsHeldBy (in_growing owner) owner.held
+-- within a call none is there
+pub record IsEmpty (owner : GrowingSessionOwner) : Type 0 where
+  pub not_free : owner.free ≡ None
+  pub not_held : owner.held ≡ None
+  pub no_operation : owner.under_way ≡ None
 
 -- what it knows: where an operation is under way, what it knew before
-abbrev pub known_in : GrowingHeld → Known
-known_in (Free session) = known_to session
-known_in (state.Held held) = known_by held
-known_in (Busy pending) = known_by (held_of pending)
-known_in Gone = record { seen = []; made = [] }
+abbrev pub known_of : Option Session → Option Held → Option PendingHeld → Known
+known_of (Some session) held under_way = known_to session
+known_of None (Some held) under_way = known_by held
+known_of None None (Some pending) = known_by (held_of pending)
+known_of None None None = record { seen = []; made = [] }
+
+abbrev pub known_in : GrowingSessionOwner → Known
+known_in owner = known_of owner.free owner.held owner.under_way
 
 -- the number of its place, by which its changes are known
-abbrev pub place_in : GrowingHeld → ℕ
-place_in (Free session) = place_of session
-place_in (state.Held held) = place_of_held held
-place_in (Busy pending) = place_of_held (held_of pending)
-place_in Gone = 0
+abbrev pub place_among : Option Session → Option Held → Option PendingHeld → ℕ
+place_among (Some session) held under_way = place_of session
+place_among None (Some held) under_way = place_of_held held
+place_among None None (Some pending) = place_of_held (held_of pending)
+place_among None None None = 0
+
+abbrev pub place_in : GrowingSessionOwner → ℕ
+place_in owner = place_among owner.free owner.held owner.under_way
 
 -- no operation is under way
-abbrev pub IsAtHand : GrowingHeld → Type 0
-IsAtHand (Busy pending) = ⊥
-IsAtHand Gone = ⊥
-IsAtHand held = ⊤
+abbrev pub IsAtHand : GrowingSessionOwner → Type 0
+IsAtHand owner = IsNone owner.under_way
 
 -- an operation is under way
-abbrev pub IsUnderWay : GrowingHeld → Type 0
-IsUnderWay (Busy pending) = ⊤
-IsUnderWay held = ⊥
+abbrev pub IsUnderWay : GrowingSessionOwner → Type 0
+IsUnderWay owner = IsSome owner.under_way
 
 -- no operation was under way, and none is
 pub record StaysAtHand (old new : GrowingSessionOwner) : Type 0 where
-  pub was : IsAtHand old.held
-  pub is : IsAtHand new.held
+  pub was : IsAtHand old
+  pub is : IsAtHand new
 
 -- the session is that of the same place, of the same map
 pub record IsOfSame (old new : GrowingSessionOwner) : Type 0 where
   pub same_map : in_growing new ≡ in_growing old
-  pub same_place : place_in new.held ≡ place_in old.held
+  pub same_place : place_in new ≡ place_in old
 
 -- no operation is under way. It may have seen more, and has made no change
 pub record SeesMore (old new : GrowingSessionOwner) : Type 0 where
   pub same : IsOfSame old new
   pub at_hand : StaysAtHand old new
-  pub knows : IsContinued (known_in old.held) (known_in new.held)
+  pub knows : IsContinued (known_in old) (known_in new)
 
 -- it knows what it knew
 pub record KnowsSame (old new : GrowingSessionOwner) : Type 0 where
   pub same : IsOfSame old new
-  pub knows : known_in new.held ≡ known_in old.held
+  pub knows : known_in new ≡ known_in old
 
 -- the session that is held now goes on from what was there
-pub record IsGripped (old : GrowingHeld) (held : Held) : Type 0 where
+pub record IsGripped (old : GrowingSessionOwner) (held : Held) : Type 0 where
   pub at_hand : IsAtHand old
   pub same_place : place_of_held held ≡ place_in old
   pub knows : IsContinued (known_in old) (known_by held)
 
+-- what was there is taken out
+pub record IsTakenOut (old new : GrowingSessionOwner) : Type 0 where
+  pub same_map : new.shared ≡ old.shared
+  pub same_keeps : new.keeps ≡ old.keeps
+  pub empty : IsEmpty new
+
 -- the held session is put back
 pub record IsRested (held : Held) (old new : GrowingSessionOwner) : Type 0 where
-  pub at_hand : IsAtHand new.held
+  pub at_hand : IsAtHand new
   pub same_map : in_growing new ≡ in_growing old
-  pub same_place : place_in new.held ≡ place_of_held held
-  pub knows : known_in new.held ≡ known_by held
+  pub same_place : place_in new ≡ place_of_held held
+  pub knows : known_in new ≡ known_by held
 
 -- why a session can't be held: the map was renewed, or about to be, at each look, and it knows what it knew; or an operation is under
 -- way, and then nothing changes
 pub record IsAway (old new : GrowingSessionOwner) (refusal : GrowRefusal) : Type 0 where
   pub stays : KnowsSame old new
-  pub why : ((refusal ≡ refused.Busy) × StaysAtHand old new) ⊎ ((refusal ≡ refused.UnderWay) × IsUnderWay old.held × (new ≡ old))
-
--- a session that is let go knows what it knew, and an operation under way goes on
-abbrev pub IsLetGo : GrowingHeld → GrowingHeld → Type 0
-IsLetGo (Busy pending) held = held ≡ Busy pending
-IsLetGo before held = IsAtHand held
+  pub why : ((refusal ≡ refused.Busy) × StaysAtHand old new) ⊎ ((refusal ≡ refused.UnderWay) × IsUnderWay old × (new ≡ old))
 
 -- ---- look-ups
 
 -- the key is looked up after the changes that the session has seen by the end of the call
 pub record Finds (key : ℕ) (old new : GrowingSessionOwner) (given : RawAnswer) : Type 0 where
-  pub answer : given ≡ raw_shown (after (pointer_of (opening_of (in_growing old))) (known_in new.held).seen key)
+  pub answer : given ≡ raw_shown (after (pointer_of (opening_of (in_growing old))) (known_in new).seen key)
   pub sees : SeesMore old new
 
 -- a range is scanned
 pub record Scans (lo hi : ℕ) (old new : GrowingSessionOwner) (places filled : List Entry) (given : RawScanned) : Type 0 where
   pub from : Known
-  pub sees_from : IsContinued (known_in old.held) from
-  pub reported : HasReported (opening_of (in_growing old)) from.seen (known_in new.held).seen lo hi places filled given
+  pub sees_from : IsContinued (known_in old) from
+  pub reported : HasReported (opening_of (in_growing old)) from.seen (known_in new).seen lo hi places filled given
   pub sees : SeesMore old new
 
 -- the same backwards
 pub record ScansBack (lo hi : ℕ) (old new : GrowingSessionOwner) (places filled : List Entry) (given : RawScanned) : Type 0 where
   pub from : Known
-  pub sees_from : IsContinued (known_in old.held) from
-  pub reported : HasReportedBack (opening_of (in_growing old)) from.seen (known_in new.held).seen lo hi places filled given
+  pub sees_from : IsContinued (known_in old) from
+  pub reported : HasReportedBack (opening_of (in_growing old)) from.seen (known_in new).seen lo hi places filled given
   pub sees : SeesMore old new
 
 -- a snapshot of a range is taken, or couldn't be
 pub record Takes (lo hi : ℕ) (old new : GrowingSessionOwner) (places filled : List Entry) (given : RawTaken) : Type 0 where
-  pub told : TellsTaken (opening_of (in_growing old)) (known_in new.held).seen lo hi places filled given
+  pub told : TellsTaken (opening_of (in_growing old)) (known_in new).seen lo hi places filled given
   pub sees : SeesMore old new
 
 -- memory was refused; or the session can't be held
@@ -145,25 +151,25 @@ IsTakeRefusal old new refusal = ((refusal ≡ refused.OutOfMemory) × SeesMore o
 
 -- the operation of one who knew this has ended, with this answer, and none is under way
 pub record HasAnswered (op : Op) (place : ℕ) (before : Known) (old new : GrowingSessionOwner) (given : RawAnswer) : Type 0 where
-  pub at_hand : IsAtHand new.held
+  pub at_hand : IsAtHand new
   pub answer : Answer
   pub its_answer : given ≡ raw_answer answer
-  pub in_order : AnswersFrom (opening_of (in_growing old)) op place before (known_in new.held) answer
+  pub in_order : AnswersFrom (opening_of (in_growing old)) op place before (known_in new) answer
   pub same : IsOfSame old new
 
 -- a session that was at hand has made this operation
 pub record Answers (op : Op) (old new : GrowingSessionOwner) (given : RawAnswer) : Type 0 where
-  pub was : IsAtHand old.held
-  pub ended : HasAnswered op (place_in old.held) (known_in old.held) old new given
+  pub was : IsAtHand old
+  pub ended : HasAnswered op (place_in old) (known_in old) old new given
 
 -- the operation of a session that was at hand has begun, and goes on at the next call
 pub record IsBusyWith (op : Op) (old new : GrowingSessionOwner) : Type 0 where
-  pub was : IsAtHand old.held
+  pub was : IsAtHand old
   pub pending : PendingHeld
-  pub is : new.held ≡ Busy pending
+  pub is : new.under_way ≡ Some pending
   pub same_op : op_of pending ≡ op
   pub same : IsOfSame old new
-  pub knows : IsContinued (known_in old.held) (known_in new.held)
+  pub knows : IsContinued (known_in old) (known_in new)
 
 -- why the operation isn't made, if it hasn't begun
 abbrev pub IsShortage : GrowRefusal → Type 0
@@ -172,7 +178,7 @@ IsShortage refusal = (refusal ≡ refused.OutOfMemory) ⊎ (refusal ≡ refused.
 -- why the operation hasn't ended: it goes on at the next call, or another one was under way, and then nothing changes; or it isn't made,
 -- and the session may have seen more
 abbrev pub IsChangeRefusal : Op → GrowingSessionOwner → GrowingSessionOwner → GrowRefusal → Type 0
-IsChangeRefusal op old new refused.UnderWay = IsBusyWith op old new ⊎ (IsUnderWay old.held × (new ≡ old))
+IsChangeRefusal op old new refused.UnderWay = IsBusyWith op old new ⊎ (IsUnderWay old × (new ≡ old))
 IsChangeRefusal op old new refusal = IsShortage refusal × SeesMore old new
 
 -- the same of one map: or this is full
@@ -183,18 +189,18 @@ IsNotMade op old new (Full number) = SeesMore old new
 -- ---- an operation that goes on
 
 -- it has ended, with this answer
-abbrev pub EndsFrom : GrowingHeld → GrowingSessionOwner → GrowingSessionOwner → RawAnswer → Type 0
-EndsFrom (Busy pending) old new given = HasAnswered (op_of pending) (place_in old.held) (known_in old.held) old new given
-EndsFrom held old new given = ⊥
+abbrev pub EndsFrom : Option PendingHeld → GrowingSessionOwner → GrowingSessionOwner → RawAnswer → Type 0
+EndsFrom (Some pending) old new given = HasAnswered (op_of pending) (place_in old) (known_in old) old new given
+EndsFrom None old new given = ⊥
 
 -- the operation is under way still
 pub record StaysBusy (before : PendingHeld) (old new : GrowingSessionOwner) : Type 0 where
   pub now : PendingHeld
-  pub is : new.held ≡ Busy now
+  pub is : new.under_way ≡ Some now
   pub same_op : op_of now ≡ op_of before
   pub same : KnowsSame old new
 
 -- it hasn't ended, or there is none, and then nothing changes
-abbrev pub IsAdvanceRefusal : GrowingHeld → GrowingSessionOwner → GrowingSessionOwner → GrowRefusal → Type 0
-IsAdvanceRefusal (Busy pending) old new refusal = (refusal ≡ refused.UnderWay) × StaysBusy pending old new
-IsAdvanceRefusal held old new refusal = (refusal ≡ refused.Idle) × (new ≡ old)
+abbrev pub IsAdvanceRefusal : Option PendingHeld → GrowingSessionOwner → GrowingSessionOwner → GrowRefusal → Type 0
+IsAdvanceRefusal (Some pending) old new refusal = (refusal ≡ refused.UnderWay) × StaysBusy pending old new
+IsAdvanceRefusal None old new refusal = (refusal ≡ refused.Idle) × (new ≡ old)

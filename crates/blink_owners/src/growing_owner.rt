@@ -4,10 +4,10 @@ ghost use Rattle.std.specs.Arc.{arc_value};
 ghost use Rattle.blink_index.specs.{map_of};
 ghost use Rattle.blink_grow.specs.{IsSessionOf};
 ghost use Rattle.blink_owners.specs.Growing.{CanClose, IsClosedGrowing, IsCloseFault, IsEndFault, IsJoinFault, IsNewGrowing, IsOpenFault, IsOwnGrowing, IsOwnerOfSame, IsRenewFault, IsShareFault, Joins, growing_in};
-ghost use Rattle.blink_owners.specs.GrowingSessions.{IsOwnSession, in_growing};
+ghost use Rattle.blink_owners.specs.GrowingSessions.{IsEmpty, IsOwnSession, in_growing};
 
 use crate::grow_refusal::GrowRefusal;
-use crate::growing_session_owner::{GrowingHeld, GrowingSessionOwner};
+use crate::growing_session_owner::GrowingSessionOwner;
 use crate::shared_growing::{GrowingState, SharedGrowing};
 use blink_grow::{GrowError, GrowingMap, Session, Unclosed};
 use blink_index::Index;
@@ -114,7 +114,7 @@ impl GrowingOwner {
         };
         match shared.places.join() {
             Some(session) => {
-                owner.held = GrowingHeld::Free(session);
+                owner.free = Some(session);
                 Ok(owner)
             }
             None => Err(GrowRefusal::NoSession),
@@ -236,12 +236,15 @@ fn empty_owner(
     shared: &Arc<SharedGrowing>,
 ) -> Result<Box<GrowingSessionOwner>, AllocError>
     ensures map { IfOk result (λ session. in_growing session.value ≡ (arc_value shared.now).map) }
+    ensures empty { IfOk result (λ session. IsEmpty session.value) }
 {
     let shared = Arc::try_clone(shared)?;
     let owner = GrowingSessionOwner {
         shared,
         keeps: false,
-        held: GrowingHeld::Gone,
+        free: None,
+        held: None,
+        under_way: None,
     };
     match Box::new(alloc, owner) {
         Ok(session) => Ok(session),

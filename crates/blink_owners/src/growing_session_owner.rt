@@ -1,8 +1,8 @@
 //! What the box of the handle of a growing map's session holds: an owner of the map, and the session or its operation.
-ghost use Rattle.std.specs.Prelude.{◌≡◌, IfErr, IfOk, IsFalse, IsTrue, OnErr, OnOk};
+ghost use Rattle.std.specs.Prelude.{◌≡◌, IfErr, IfOk, OnErr, OnOk};
 ghost use Rattle.blink_batch.specs.{FitsWords};
 ghost use Rattle.blink_grow.specs.{IsHeldOf, IsPendingOf, IsUpdate};
-ghost use Rattle.blink_owners.specs.GrowingSessions.{Answers, EndsFrom, Finds, IsAdvanceRefusal, IsAtHand, IsAway, IsChangeRefusal, IsGripped, IsLetGo, IsNotMade, IsOwnSession, IsRested, IsTakeRefusal, IsUnderWay, KnowsSame, SeesMore, Scans, ScansBack, Takes, in_growing};
+ghost use Rattle.blink_owners.specs.GrowingSessions.{Answers, EndsFrom, Finds, IsAdvanceRefusal, IsAtHand, IsAway, IsChangeRefusal, IsEmpty, IsGripped, IsNotMade, IsOwnSession, IsRested, IsTakeRefusal, IsTakenOut, KnowsSame, SeesMore, Scans, ScansBack, Takes, in_growing};
 
 use crate::grow_refusal::GrowRefusal;
 use crate::raw::{REMOVED, RawAnswer, RawScanned, RawTaken};
@@ -10,30 +10,26 @@ use crate::shared_growing::SharedGrowing;
 use blink_batch::{Entry, Op};
 use blink_grow::{Held, PendingHeld, Session, StoppedHeld};
 use std::alloc::Global;
-use std::mem;
 use std::sync::Arc;
 
 // How often a change renews the map. Once is enough, unless other sessions use up all the new room before the change is made.
 const RENEWALS: u32 = 8;
 
-/// A session: free, held, or with an operation under way. Within a call it may be gone.
-#[derive(Drop)]
-pub enum GrowingHeld {
-    Free(Session),
-    Held(Held),
-    Busy(PendingHeld),
-    Gone,
-}
-
-/// A session with an owner of its map, so that its thread needs nothing else.
+/// A session with an owner of its map, so that its thread needs nothing else. Between calls it has one of three: the free session, the
+/// held session, or its operation. They have a field each, so that a call moves no more than it works on: a held session is several times
+/// as large as a free one, and an operation is larger still.
 #[derive(Drop)]
 pub struct GrowingSessionOwner {
     /// The map, with the places of its sessions.
     pub shared: Arc<SharedGrowing>,
     /// Whether the session stays held between calls.
     pub keeps: bool,
-    /// The session, or its operation.
-    pub held: GrowingHeld,
+    /// The session, unless it is held, or an operation of it is under way.
+    pub free: Option<Session>,
+    /// The session that is held.
+    pub held: Option<Held>,
+    /// The session's operation that is under way.
+    pub under_way: Option<PendingHeld>,
 }
 
 impl GrowingSessionOwner {
@@ -45,11 +41,21 @@ impl GrowingSessionOwner {
         ensures refused { IfErr result (IsAway self.old self.new) }
         ensures unchanged { OnErr result (answer.new ≡ answer.old) }
     {
-        let mut held = self.grip(tries)?;
-        let shown = self.shared.map.find_held(&mut held, key);
-        self.rest(held);
-        *answer = RawAnswer::shown(shown);
-        Ok(())
+        let map = &self.shared.map;
+        match (&mut self.free, &mut self.held) {
+            (Some(session), _) => {
+                let Ok(shown) = map.try_find(session, key, tries) else {
+                    return Err(GrowRefusal::Busy);
+                };
+                *answer = RawAnswer::shown(shown);
+                Ok(())
+            }
+            (None, Some(held)) => {
+                *answer = RawAnswer::shown(map.find_held(held, key));
+                Ok(())
+            }
+            (None, None) => Err(GrowRefusal::UnderWay),
+        }
     }
 
     /// Scans a range of keys.
@@ -68,12 +74,22 @@ impl GrowingSessionOwner {
         ensures unchanged { OnErr result
             ((entries.new ≡ entries.old) × (scanned.new ≡ scanned.old)) }
     {
-        let mut held = self.grip(tries)?;
-        let (lo, hi) = range;
-        let came = self.shared.map.scan_held(&mut held, lo, hi, entries);
-        self.rest(held);
-        *scanned = RawScanned::of(came);
-        Ok(())
+        let map = &self.shared.map;
+        match (&mut self.free, &mut self.held) {
+            (Some(session), _) => {
+                let Ok(came) = map.try_scan(session, range, tries, entries) else {
+                    return Err(GrowRefusal::Busy);
+                };
+                *scanned = RawScanned::of(came);
+                Ok(())
+            }
+            (None, Some(held)) => {
+                let came = map.scan_held(held, range.0, range.1, entries);
+                *scanned = RawScanned::of(came);
+                Ok(())
+            }
+            (None, None) => Err(GrowRefusal::UnderWay),
+        }
     }
 
     /// Scans a range of keys backwards.
@@ -92,12 +108,22 @@ impl GrowingSessionOwner {
         ensures unchanged { OnErr result
             ((entries.new ≡ entries.old) × (scanned.new ≡ scanned.old)) }
     {
-        let mut held = self.grip(tries)?;
-        let (lo, hi) = range;
-        let came = self.shared.map.scan_back_held(&mut held, lo, hi, entries);
-        self.rest(held);
-        *scanned = RawScanned::of(came);
-        Ok(())
+        let map = &self.shared.map;
+        match (&mut self.free, &mut self.held) {
+            (Some(session), _) => {
+                let Ok(came) = map.try_scan_back(session, range, tries, entries) else {
+                    return Err(GrowRefusal::Busy);
+                };
+                *scanned = RawScanned::of(came);
+                Ok(())
+            }
+            (None, Some(held)) => {
+                let came = map.scan_back_held(held, range.0, range.1, entries);
+                *scanned = RawScanned::of(came);
+                Ok(())
+            }
+            (None, None) => Err(GrowRefusal::UnderWay),
+        }
     }
 
     /// Takes a snapshot of a range of keys.
@@ -117,19 +143,23 @@ impl GrowingSessionOwner {
         ensures unchanged { OnErr result
             ((entries.new ≡ entries.old) × (taken.new ≡ taken.old)) }
     {
-        let mut held = self.grip(tries)?;
-        let (lo, hi) = range;
-        let found = self
-            .shared
-            .map
-            .snapshot_held(alloc, &mut held, lo, hi, tries);
-        self.rest(held);
-        match found {
-            Ok(found) => {
-                *taken = RawTaken::of(&found, entries);
-                Ok(())
-            }
-            Err(_) => Err(GrowRefusal::OutOfMemory),
+        let map = &self.shared.map;
+        match (&mut self.free, &mut self.held) {
+            (Some(session), _) => match map.try_snapshot(alloc, session, range, tries) {
+                Ok(found) => {
+                    *taken = RawTaken::of(&found, entries);
+                    Ok(())
+                }
+                Err(refusal) => Err(GrowRefusal::of(refusal)),
+            },
+            (None, Some(held)) => match map.snapshot_held(alloc, held, range.0, range.1, tries) {
+                Ok(found) => {
+                    *taken = RawTaken::of(&found, entries);
+                    Ok(())
+                }
+                Err(_) => Err(GrowRefusal::OutOfMemory),
+            },
+            (None, None) => Err(GrowRefusal::UnderWay),
         }
     }
 
@@ -150,26 +180,14 @@ impl GrowingSessionOwner {
         ensures refused { IfErr result (IsChangeRefusal op self.old self.new) }
         ensures unchanged { OnErr result (answer.new ≡ answer.old) }
     {
-        if self.is_under_way() {
+        if self.under_way.is_some() {
             return Err(GrowRefusal::UnderWay);
         }
         self.change_at_hand(alloc, op, tries, answer)
     }
 
-    // Whether an operation is under way.
-    fn is_under_way(&self) -> bool
-        requires its_own { IsOwnSession self.now }
-        ensures under_way { IsTrue result → IsUnderWay self.now.held }
-        ensures at_hand { IsFalse result → IsAtHand self.now.held }
-    {
-        match &self.held {
-            GrowingHeld::Busy(_) => true,
-            _ => false,
-        }
-    }
-
     // The same, by a session that is at hand.
-    #[tactic(auto, using(crate::proofs::GrowingStays::answers_through, crate::proofs::GrowingStays::refused_through, crate::proofs::GrowingStays::not_renewed, crate::proofs::GrowingStays::sees_through, crate::proofs::GrowingStays::sees_itself))]
+    #[tactic(auto, using(crate::proofs::GrowingStays::renewals))]
     fn change_at_hand(
         &mut self,
         alloc: Global,
@@ -178,7 +196,7 @@ impl GrowingSessionOwner {
         answer: &mut RawAnswer,
     ) -> Result<(), GrowRefusal>
         requires its_own { IsOwnSession self.old }
-        requires at_hand { IsAtHand self.old.held }
+        requires at_hand { IsAtHand self.old }
         requires updates { IsUpdate op }
         requires fits { FitsWords op }
         ensures its_own { IsOwnSession self.new }
@@ -231,7 +249,7 @@ impl GrowingSessionOwner {
                 Ok(())
             }
             Err(StoppedHeld::Waits(pending)) => {
-                self.held = GrowingHeld::Busy(pending);
+                self.under_way = Some(pending);
                 Err(NotMade::Refused(GrowRefusal::UnderWay))
             }
             Err(StoppedHeld::Full(held)) => {
@@ -240,7 +258,7 @@ impl GrowingSessionOwner {
                 } else {
                     NotMade::Refused(GrowRefusal::RowsBusy)
                 };
-                self.held = GrowingHeld::Free(self.shared.map.release(held));
+                self.free = Some(self.shared.map.release(held));
                 Err(refusal)
             }
         }
@@ -250,25 +268,22 @@ impl GrowingSessionOwner {
     pub fn advance(&mut self, tries: u32, answer: &mut RawAnswer) -> Result<(), GrowRefusal>
         requires its_own { IsOwnSession self.old }
         ensures its_own { IsOwnSession self.new }
-        ensures ended { OnOk result (EndsFrom self.old.held self.old self.new answer.new) }
-        ensures refused { IfErr result (IsAdvanceRefusal self.old.held self.old self.new) }
+        ensures ended { OnOk result (EndsFrom self.old.under_way self.old self.new answer.new) }
+        ensures refused { IfErr result (IsAdvanceRefusal self.old.under_way self.old self.new) }
         ensures unchanged { OnErr result (answer.new ≡ answer.old) }
     {
-        match mem::replace(&mut self.held, GrowingHeld::Gone) {
-            GrowingHeld::Busy(pending) => match self.shared.map.advance(pending, tries) {
-                Ok((held, given)) => {
-                    self.rest(held);
-                    *answer = RawAnswer::of(given);
-                    Ok(())
-                }
-                Err(pending) => {
-                    self.held = GrowingHeld::Busy(pending);
-                    Err(GrowRefusal::UnderWay)
-                }
-            },
-            held => {
-                self.held = held;
-                Err(GrowRefusal::Idle)
+        let Some(pending) = self.under_way.take() else {
+            return Err(GrowRefusal::Idle);
+        };
+        match self.shared.map.advance(pending, tries) {
+            Ok((held, given)) => {
+                self.rest(held);
+                *answer = RawAnswer::of(given);
+                Ok(())
+            }
+            Err(pending) => {
+                self.under_way = Some(pending);
+                Err(GrowRefusal::UnderWay)
             }
         }
     }
@@ -282,7 +297,7 @@ impl GrowingSessionOwner {
     {
         let held = self.grip(tries)?;
         self.keeps = true;
-        self.held = GrowingHeld::Held(held);
+        self.held = Some(held);
         Ok(())
     }
 
@@ -291,14 +306,11 @@ impl GrowingSessionOwner {
         requires its_own { IsOwnSession self.old }
         ensures its_own { IsOwnSession self.new }
         ensures same { KnowsSame self.old self.new }
-        ensures goes_on { IsLetGo self.old.held self.new.held }
+        ensures goes_on { self.new.under_way ≡ self.old.under_way }
     {
         self.keeps = false;
-        match mem::replace(&mut self.held, GrowingHeld::Gone) {
-            GrowingHeld::Held(held) => {
-                self.held = GrowingHeld::Free(self.shared.map.release(held));
-            }
-            held => self.held = held,
+        if let Some(held) = self.held.take() {
+            self.free = Some(self.shared.map.release(held));
         }
     }
 
@@ -316,13 +328,8 @@ impl GrowingSessionOwner {
             }
         }
         owner.let_go();
-        let GrowingSessionOwner {
-            shared,
-            keeps: _,
-            held,
-        } = owner;
-        if let GrowingHeld::Free(session) = held {
-            shared.places.leave(session);
+        if let Some(session) = owner.free.take() {
+            owner.shared.places.leave(session);
         }
     }
 
@@ -330,38 +337,35 @@ impl GrowingSessionOwner {
     fn grip(&mut self, tries: u32) -> Result<Held, GrowRefusal>
         requires its_own { IsOwnSession self.old }
         ensures its_own { IfOk result (IsHeldOf (in_growing self.old)) }
-        ensures gripped { IfOk result (IsGripped self.old.held) }
-        ensures gone { OnOk result (self.new ≡ record self.old { held = GrowingHeld.Gone }) }
+        ensures gripped { IfOk result (IsGripped self.old) }
+        ensures taken { OnOk result (IsTakenOut self.old self.new) }
         ensures stays { OnErr result (IsOwnSession self.new) }
         ensures refused { IfErr result (IsAway self.old self.new) }
     {
-        match mem::replace(&mut self.held, GrowingHeld::Gone) {
-            GrowingHeld::Free(session) => match self.shared.map.try_hold(session, tries) {
-                Ok(held) => Ok(held),
-                Err(session) => {
-                    self.held = GrowingHeld::Free(session);
-                    Err(GrowRefusal::Busy)
-                }
-            },
-            GrowingHeld::Held(held) => Ok(held),
-            held => {
-                self.held = held;
-                Err(GrowRefusal::UnderWay)
+        let Some(session) = self.free.take() else {
+            return self.held.take().ok_or(GrowRefusal::UnderWay);
+        };
+        match self.shared.map.try_hold(session, tries) {
+            Ok(held) => Ok(held),
+            Err(session) => {
+                self.free = Some(session);
+                Err(GrowRefusal::Busy)
             }
         }
     }
 
     // Puts a held session back: held, if it is to stay so, or free.
     fn rest(&mut self, held: Held)
+        requires empty { IsEmpty self.old }
         requires its_own { IsHeldOf (in_growing self.old) held }
         ensures its_own { IsOwnSession self.new }
         ensures rested { IsRested held self.old self.new }
     {
-        self.held = if self.keeps {
-            GrowingHeld::Held(held)
+        if self.keeps {
+            self.held = Some(held);
         } else {
-            GrowingHeld::Free(self.shared.map.release(held))
-        };
+            self.free = Some(self.shared.map.release(held));
+        }
     }
 }
 

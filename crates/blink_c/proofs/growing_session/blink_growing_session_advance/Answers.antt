@@ -8,10 +8,10 @@ use Rattle.blink_c.proofs.growing_session.blink_growing_session_advance.Goals as
 
 pub returns-clause-ended : goal.returns-clause-ended
 returns-clause-ended c zero =
-    subst (λ (owner : GrowingSessionOwner). EndsFrom owner.held owner c.advance.new.self c.advance.new.answer) c.get.ensures.value
+    subst (λ (owner : GrowingSessionOwner). EndsFrom owner.under_way owner c.advance.new.self c.advance.new.answer) c.get.ensures.value
     (on_done code_of not_done c.advance.result c.code_of.result c.code_of.ensures c.advance.ensures.ended zero)
 
 pub returns-clause-refused : goal.returns-clause-refused
 returns-clause-refused c =
-    told_why code_of (IsAdvanceRefusal c.args.session.now.value.held c.args.session.now.value c.advance.new.self) c.advance.result c.code_of.result c.code_of.ensures
-    (subst (λ (owner : GrowingSessionOwner). IfErr c.advance.result (IsAdvanceRefusal owner.held owner c.advance.new.self)) c.get.ensures.value c.advance.ensures.refused)
+    told_why code_of (IsAdvanceRefusal c.args.session.now.value.under_way c.args.session.now.value c.advance.new.self) c.advance.result c.code_of.result c.code_of.ensures
+    (subst (λ (owner : GrowingSessionOwner). IfErr c.advance.result (IsAdvanceRefusal owner.under_way owner c.advance.new.self)) c.get.ensures.value c.advance.ensures.refused)
