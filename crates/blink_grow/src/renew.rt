@@ -78,17 +78,21 @@ impl GrowingMap {
         self.try_renew_at(alloc, session.slot, full, looks)
     }
 
-    // Does so by the session in this slot.
-    fn try_renew_at(
+    /// Renews the map as `try_renew` does, by the session of this place (`Places::resting`), or of the first, if there are fewer.
+    pub fn try_renew_at(
         &self,
         alloc: Global,
-        copier: usize,
+        place: usize,
         full: Option<u64>,
         looks: u32,
     ) -> Result<(), GrowError>
-        requires in_range { copier < places_of self.now }
         ensures refused { IfErr result IsRefusal }
     {
+        let copier = if place < self.table.slot_count() {
+            place
+        } else {
+            0
+        };
         let reason = match full {
             Some(number) => Reason::Full(number),
             None => Reason::Asked,

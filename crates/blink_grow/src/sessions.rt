@@ -91,6 +91,24 @@ impl Places {
         }
     }
 
+    /// Returns a place at which a session rests just now; `None`, if it found none. Any thread may take the session meanwhile.
+    pub fn resting(&self) -> Option<usize> {
+        for place in 0..self.table.slot_count() {
+            if self.rests(place) {
+                return Some(place);
+            }
+        }
+        None
+    }
+
+    // Whether a session rests at the place just now.
+    fn rests(&self, place: usize) -> bool
+        requires in_range { place < self.now.table.shared.table_id.slots }
+    {
+        let (word, _seat) = self.table.shared.load_new_seat::<Visit>(place);
+        word == RESTS
+    }
+
     // A seat of the places that has no slot.
     fn visit(&self) -> Seat<Option<Session>, Visitor>
         ensures table { result.table_id ≡ self.now.table.shared.table_id }

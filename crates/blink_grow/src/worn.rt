@@ -1,9 +1,9 @@
 //! Renewing a growing map from which many entries were removed. Emptied leaves stay in the current map, and a scan, or a look for its first
 //! or last entry, passes them. No clause speaks of it: a renewal keeps what the other calls promise.
 ghost use Rattle.std.specs.Prelude.{◌<◌};
-ghost use Rattle.blink_grow.specs.Sessions.{places_of};
+ghost use Rattle.blink_grow.specs.Sessions.{IsSessionOf, places_of};
 
-use crate::growing::GrowingMap;
+use crate::growing::{GrowingMap, Session};
 use crate::renew::Reason;
 use crate::room::numbers_over;
 use crate::waiting::WORN_LOOKS;
@@ -36,11 +36,18 @@ impl GrowingMap {
     ///
     /// What it costs is spread over the removals. A renewal copies the entries that are left, so no more than one for each removal.
     pub fn renew_if_worn(&self, alloc: Global, looks: u32) {
-        self.renew_if_worn_by(alloc, 0, looks);
+        self.renew_if_worn_at(alloc, 0, looks);
+    }
+
+    /// Does so by this session, as `try_renew_by`. The session stays as it is.
+    pub fn renew_if_worn_by(&self, alloc: Global, session: &Session, looks: u32)
+        requires its_own { IsSessionOf self.now session.now }
+    {
+        self.renew_if_worn_at(alloc, session.slot, looks);
     }
 
     // Does so by the session in this slot.
-    fn renew_if_worn_by(&self, alloc: Global, copier: usize, looks: u32)
+    fn renew_if_worn_at(&self, alloc: Global, copier: usize, looks: u32)
         requires in_range { copier < places_of self.now }
     {
         let removed = self.removed.load(Ordering::SeqCst);
@@ -72,7 +79,7 @@ impl GrowingMap {
     {
         self.count(op, answer);
         if let Answer::Removed(_) = answer {
-            self.renew_if_worn_by(alloc, slot, WORN_LOOKS);
+            self.renew_if_worn_at(alloc, slot, WORN_LOOKS);
         }
     }
 

@@ -121,14 +121,16 @@ impl GrowingOwner {
         }
     }
 
-    /// Renews the map, as `GrowingMap::try_renew` of `blink_grow` does.
+    /// Renews the map, as `GrowingMap::try_renew` of `blink_grow` does. Where some session rests, the entries are copied by it, so no search
+    /// waits for the copy.
     pub fn renew(&self, alloc: Global, looks: u32) -> Result<(), GrowRefusal>
         ensures refused { IfErr result IsRenewFault }
     {
         let GrowingState::Open(shared) = &self.state else {
             return Err(GrowRefusal::Closed);
         };
-        match shared.map.try_renew(alloc, None, looks) {
+        let copier = shared.places.resting().unwrap_or(0);
+        match shared.map.try_renew_at(alloc, copier, None, looks) {
             Ok(()) => Ok(()),
             Err(refusal) => Err(GrowRefusal::of(refusal)),
         }

@@ -1,14 +1,14 @@
 //! What the box of the handle of a growing map's session holds: an owner of the map, and the session or its operation.
 ghost use Rattle.std.specs.Prelude.{◌≡◌, IfErr, IfOk, OnErr, OnOk};
 ghost use Rattle.blink_batch.specs.{FitsWords};
-ghost use Rattle.blink_grow.specs.{IsHeldOf, IsPendingOf, IsUpdate};
+ghost use Rattle.blink_grow.specs.{IsHeldOf, IsPendingOf, IsRefusal, IsUpdate};
 ghost use Rattle.blink_owners.specs.GrowingSessions.{Answers, EndsFrom, Finds, IsAdvanceRefusal, IsAtHand, IsAway, IsChangeRefusal, IsEmpty, IsGripped, IsNotMade, IsOwnSession, IsRested, IsTakeRefusal, IsTakenOut, KnowsSame, SeesMore, Scans, ScansBack, Takes, in_growing};
 
 use crate::grow_refusal::GrowRefusal;
 use crate::raw::{REMOVED, RawAnswer, RawScanned, RawTaken};
 use crate::shared_growing::SharedGrowing;
 use blink_batch::{Entry, Op};
-use blink_grow::{Held, PendingHeld, Session, StoppedHeld};
+use blink_grow::{GrowError, Held, PendingHeld, Session, StoppedHeld};
 use std::alloc::Global;
 use std::sync::Arc;
 
@@ -212,7 +212,7 @@ impl GrowingSessionOwner {
                 }
                 Err(NotMade::Refused(refusal)) => return Err(refusal),
                 Err(NotMade::Full(number)) => {
-                    if let Err(refusal) = self.shared.map.try_renew(alloc, Some(number), tries) {
+                    if let Err(refusal) = self.renew_full(alloc, number, tries) {
                         return Err(GrowRefusal::of(refusal));
                     }
                 }
@@ -221,10 +221,26 @@ impl GrowingSessionOwner {
         Err(GrowRefusal::Busy)
     }
 
+    // Renews the map of this number, which was found full, by this session: no search of another one waits for the copy.
+    fn renew_full(&self, alloc: Global, number: u64, looks: u32) -> Result<(), GrowError>
+        requires its_own { IsOwnSession self.now }
+        ensures refused { IfErr result IsRefusal }
+    {
+        let map = &self.shared.map;
+        match &self.free {
+            Some(session) => map.try_renew_by(alloc, session, Some(number), looks),
+            None => map.try_renew(alloc, Some(number), looks),
+        }
+    }
+
     // Renews the map after a removal, if many of its leaves are empty, unless this session stays held.
-    fn renew_if_worn(&self, alloc: Global, kind: u64, looks: u32) {
-        if kind == REMOVED && !self.keeps {
-            self.shared.map.renew_if_worn(alloc, looks);
+    fn renew_if_worn(&self, alloc: Global, kind: u64, looks: u32)
+        requires its_own { IsOwnSession self.now }
+    {
+        if let Some(session) = &self.free {
+            if kind == REMOVED {
+                self.shared.map.renew_if_worn_by(alloc, session, looks);
+            }
         }
     }
 
