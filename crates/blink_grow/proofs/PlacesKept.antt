@@ -27,8 +27,8 @@ pub still : (map : GrowingMap) (s : State (Option Session) Visitor) (place : ℕ
 still map s place views are =
     subst (λ (words : List ℕ). ArePlaces map record { words = words; homes = s.homes; views = views }) (sym (set-get_or s.words place 0)) (record { width = are.width; rests = are.rests; vacant = are.vacant })
 
-pub visits_places : (map : GrowingMap) (slots : ℕ) → Enters (ArePlaces map) slots 0 (λ n w. visits (step slots 0 0 0 none) (visitor, []) n (w, []))
-visits_places map slots s are homes small = (visitor, record { width = are.width; rests = are.rests; vacant = are.vacant }, tt)
+pub visits_places : (map : GrowingMap) (slots place : ℕ) → Enters (ArePlaces map) slots place (λ n w. visits (step slots place 0 0 none) (visitor, []) n (w, []))
+visits_places map slots place s are homes small = (visitor, record { width = are.width; rests = are.rests; vacant = are.vacant }, tt)
 
 pub opening_places : (map : GrowingMap) (count : ℕ) (words : List ℕ) → words ≡ replicate count 0 → ArePlaces map (opening words (replicate count None) visitor)
 opening_places map count words zeros = record {
