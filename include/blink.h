@@ -724,9 +724,10 @@ int blink_growing_share(blink_growing *map, blink_growing *out);
  * close of the map has begun; otherwise only if each place was taken. */
 int blink_growing_join(blink_growing *map, blink_growing_session *out);
 
-/* Renews the map in good time, which spares other threads the renewal and not the pause. It looks `looks` times for each session that is
- * held or in a call. Refused: BLINK_RENEWING, if one was at each look, or another thread was renewing the map; BLINK_MAP_TOO_LARGE;
- * BLINK_NO_MEMORY; BLINK_MAP_CLOSED. Then the map goes on with the room that it has left. */
+/* Renews the map in good time, which spares other threads the renewal, and not the pause of their changes. It looks `looks` times for each
+ * session that is held or in a call. It copies by a session that nobody has, or else by one whose searches wait meanwhile. Refused:
+ * BLINK_RENEWING, if one was at each look, or another thread was renewing the map; BLINK_MAP_TOO_LARGE; BLINK_NO_MEMORY; BLINK_MAP_CLOSED.
+ * Then the map goes on with the room that it has left. */
 int blink_growing_renew(blink_growing *map, uint32_t looks);
 
 /* Closes the map, and gives an index of its entries in as few pages as they need, in an empty handle. The handle of the map stays, and is
@@ -768,7 +769,7 @@ int blink_growing_session_advance(blink_growing_session *session, uint32_t tries
 
 /* Holds the session for the calls that follow, so that they find no renewal, until it is let go. The map is neither renewed nor closed
  * meanwhile, so hold it for a few calls, and let it go before the thread waits for anything. A change of this session that finds the map
- * full lets it go itself, and so does one that goes on: it is held again by the next call. Refused: BLINK_PENDING; BLINK_RENEWING. */
+ * full lets it go itself, and so does one that goes on: it is held again by the next change. Refused: BLINK_PENDING; BLINK_RENEWING. */
 int blink_growing_session_hold(blink_growing_session *session, uint32_t tries);
 void blink_growing_session_let_go(blink_growing_session *session);
 

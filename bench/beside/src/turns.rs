@@ -1,7 +1,7 @@
 //! Calls side by side, by turns, so that what disturbs one disturbs the others: what a session's marks cost, and what scans take.
 
 use crate::workload::{Keys, Random};
-use blink::{Index, Map, Pass, Room, Session, Table};
+use blink::{GrowingMap, GrowingSession, Index, Map, Pass, Room, Session, Table};
 use std::collections::BTreeMap;
 use std::sync::atomic::{AtomicBool, Ordering};
 use std::sync::{Barrier, RwLock};
@@ -212,6 +212,25 @@ fn mixed(session: &mut Session, keys: &[u64], thread: u64, count: usize) {
     }
 }
 
+// The same of a growing map: finds by sessions that are held for all of them, and by others; and replacements.
+fn growing_changes(index: &Index, keys: &[u64], threads: usize) {
+    let map = GrowingMap::open(index, threads as u32).expect("a map");
+    let sessions = || (0..threads).map(|_| map.session().expect("a session")).collect::<Vec<_>>();
+    let looks = |session: &mut GrowingSession, thread| {
+        let mut random = Random(thread);
+        (0..CALLS / threads).for_each(|_| assert!(session.get(keys[random.below(keys.len())]).is_some()));
+    };
+    let find = timed(sessions(), CALLS, |mut session, thread| looks(&mut session, thread));
+    println!("a find in a growing map, {threads} threads\t{find:.1}");
+    let held = timed(sessions(), CALLS, |mut session, thread| looks(&mut session.hold(), thread));
+    println!("the same by held sessions, {threads} threads\t{held:.1}");
+    let own = |thread: u64| keys.iter().skip(thread as usize).step_by(threads).copied();
+    let replacement = timed(sessions(), 5 * keys.len(), |mut session, thread| {
+        (0..5).for_each(|turn| own(thread).for_each(|key| _ = session.replace(key, key ^ turn).expect("memory")));
+    });
+    println!("a replacement in a growing map, {threads} threads\t{replacement:.1}");
+}
+
 /// Times, once each, what a map's sessions do. Two libraries are compared by two programs, which `bench/changes.sh` runs by turns.
 pub fn changes() {
     let keys = Keys::random(40_000, 0).present;
@@ -250,6 +269,7 @@ pub fn changes() {
             own(thread).for_each(|key| _ = session.insert(key, !key).expect("room"));
         });
         println!("an insertion into an empty map, {threads} threads\t{insertion:.1}");
+        growing_changes(&index, &keys, threads);
     }
     let mut leaf = Index::new(32).expect("an index");
     keys[..16].iter().for_each(|&key| _ = leaf.insert(key, !key).expect("memory"));

@@ -68,8 +68,9 @@ impl GrowingMap {
         Ok(GrowingSession { handle })
     }
 
-    /// Renews the map in good time, which spares other threads the renewal, and not the pause. It looks so many times for each session that is
-    /// held or in a call.
+    /// Renews the map in good time, which spares other threads the renewal, and not the pause of their changes. It looks so many times for each
+    /// session that is held or in a call. It copies the entries by a session that nobody has, or, where each place is taken, by one of those,
+    /// whose searches wait meanwhile.
     ///
     /// It is refused with [`Error::Renewing`], if one was at each look, or if another thread was renewing the map; with
     /// [`Error::TooLarge`]; and with [`Error::OutOfMemory`]. Then the map goes on with the room that it has left.
@@ -88,8 +89,17 @@ impl GrowingMap {
     /// # Ok::<(), Error>(())
     /// ```
     pub fn renew(&self, looks: u32) -> Result<(), Error> {
-        // SAFETY: the map's handle is full, and locked.
-        Error::check(unsafe { sys::blink_growing_renew(&mut *self.lock(), looks) })
+        // By a handle of its own, so that threads join the map meanwhile.
+        let mut own = Handle::EMPTY;
+        // SAFETY: the map's handle is full, and locked; `own` is empty.
+        Error::check(unsafe { sys::blink_growing_share(&mut *self.lock(), &mut own) })?;
+        // SAFETY: `own` is full, and freed once.
+        let code = unsafe {
+            let code = sys::blink_growing_renew(&mut own, looks);
+            sys::blink_growing_free(own);
+            code
+        };
+        Error::check(code)
     }
 
     /// Closes the map. The index that it returns has the entries that the map was opened with, after all changes, in as few pages as they

@@ -371,6 +371,7 @@ extern "C" {
     pub(crate) fn blink_session_free(session: Handle);
 
     pub(crate) fn blink_growing_open(index: *mut Handle, sessions: u32, out: *mut Handle) -> Code;
+    pub(crate) fn blink_growing_share(map: *mut Handle, out: *mut Handle) -> Code;
     pub(crate) fn blink_growing_join(map: *mut Handle, out: *mut Handle) -> Code;
     pub(crate) fn blink_growing_renew(map: *mut Handle, looks: u32) -> Code;
     pub(crate) fn blink_growing_close(map: *mut Handle, out: *mut Handle) -> Code;

@@ -206,11 +206,11 @@ fn calls_beside_a_renewal(sessions: u32) -> Caller {
     }
 }
 
-// The renewal begins, and ends, with the session in its place; in between it has the only session for its copy.
+// The renewal begins, and ends, with the session in its place; in between it has the only session for its copy, so that searches are refused too.
 #[test]
 fn calls_beside_a_renewal_that_is_stopped_anywhere_answer_or_are_refused() {
     let Caller { refused, searched, .. } = calls_beside_a_renewal(1);
-    assert!(searched <= 2, "{searched} of {refused}");
+    assert!(searched < refused / 4, "{searched} of {refused}");
 }
 
 // The renewal copies by the first session, and the other one searches meanwhile, but where the sessions are gathered.
