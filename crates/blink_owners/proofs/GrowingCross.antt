@@ -35,7 +35,7 @@ pending : IsSend Pending.the_field.row
 pending =
     struct_send (struct.shape Pending.the_type) (
       seat.the_send (Option.the_row Current.the_row) SlotView.the_row (option.the_send Current.the_row current.the_send),
-      (search sendable, (heap.Arc-send Map.the_row map.the_send map.the_sync, (search sendable, (pending_send, (search (sendable, crosses) depth 12, tt))))),
+      (search sendable, (heap.Arc-send Map.the_row map.the_send map.the_sync, (search sendable, (search sendable, (pending_send, (search (sendable, crosses) depth 12, tt)))))),
     )
 
 pub session_owner_send : IsSend GrowingSessionOwner.the_row
