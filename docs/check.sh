@@ -1,7 +1,8 @@
 #!/bin/sh
 # Looks whether the documents say what is there: links and their anchors, paths, must-fail edits, names in backticks, and pictures; that EDITS.md
 # lists each edit, BELIEVE.md quotes the sources, and PROMISES.md cites clauses that there are; that neither an old word nor a merge's mark stands in them; that crates name of
-# one another's specs what their lists pass on; and that each is short enough: README.md by lines, other documents by words of prose, and tables by the words of a cell. It prints a line for each finding and exits 1, or prints nothing and exits 0.
+# one another's specs what their lists pass on; that C, Rust and Python count alike; and that each is short enough: README.md by lines, other
+# documents by words of prose, and tables by the words of a cell. It prints a line for each finding and exits 1, or prints nothing and exits 0.
 # A new old word goes to `old`.
 LC_ALL=C
 export LC_ALL
@@ -213,8 +214,22 @@ for it in include/blink.h rust/blink/src/map.rs python/blink.py; do
     [ "$counted" = "300 $((drawn + 22))" ] || echo "$it: a room counts '$counted' for a session, not 300 rows and $((drawn + 22)) page numbers"
 done >>"$work/found"
 
-# Pictures: the frames are those of the tour, and the crates those of crates.txt. Figures that are quoted of the tables are those of today's. The
-# tour's pictures were made of its pages as they are.
+# Tries: C, Rust and Python take the same number of steps in vain, at first and at most.
+for it in TRIES MOST_TRIES; do
+    sed -n "s/^#define BLINK_$it \([0-9]*\)\$/\1 in C/p" include/blink.h
+    sed -n "s/^pub(crate) const $it: u32 = \([0-9_]*\);\$/\1 in Rust/p" rust/blink/src/waiting.rs | tr -d _
+    sed -n "s/^_$it = \([0-9_]*\)\$/\1 in Python/p" python/blink.py | tr -d _
+done | awk '{ told[NR] = $0; number[NR] = $1 }
+    END { for (at = 1; at <= 6; at++) if (!(at in number) || number[at] != number[at <= 3 ? 1 : 4]) wrong = 1
+        if (wrong) { line = "include/blink.h: tries of calls that wait:"; for (at = 1; at <= NR; at++) line = line " " told[at] ","; print line " and not twice three equal ones" } }' >>"$work/found"
+
+# Lengths: CHANGING.md tells them as they are above.
+for it in "$most_lines lines" "$(echo $most_words | sed 's/...$/,&/') words" "$most_in_cell words"; do
+    grep -q "at most $it" docs/CHANGING.md || echo "docs/CHANGING.md: doesn't say that a text has at most $it"
+done >>"$work/found"
+
+# Pictures: they are what their script draws, the frames those of the tour, and the crates those of crates.txt. Figures that are quoted of the
+# tables are those of today's. The tour's pictures were made of its pages as they are.
 if command -v python3 >/dev/null; then
     python3 docs/pictures/draw.py check >>"$work/found"
     python3 docs/figures.py check >>"$work/found"

@@ -4,13 +4,13 @@
  * Link with libblink.a or libblink.so, which ./libblink builds. What the comment of a function says of its results, and of what
  * it changes, is proved in crates/blink_c, unless it says "tested". Inline functions are made of the others, and tested alone. Of all
  * functions it is tested alone that memory is refused only where malloc or realloc gives none, that an operation gets on by
- * blink_pass_advance or blink_session_advance, and that what is freed is free. What follows is what the caller keeps.
+ * blink_pass_advance and its like, and that what is freed is free. What follows is what the caller keeps.
  *
- * Handles. blink_index, blink_reader, blink_table, blink_pass, blink_map and blink_session are handles. A handle begins as {NULL},
- * and is then empty. A function with a parameter `out` takes the place of an empty handle, and fills it if it returns BLINK_DONE. All
- * other functions take a full one. A handle is freed once: by its free function, or, of a table, by its close function. A close of a map
- * leaves the handle, which blink_map_free frees. blink_index_share and blink_reader_unshare, if they return BLINK_DONE, leave the handle
- * empty that they take, and then it isn't freed.
+ * Handles. blink_index, blink_reader, blink_table, blink_pass, blink_map, blink_session, blink_growing and blink_growing_session are
+ * handles. A handle begins as {NULL}, and is then empty. A function with a parameter `out` takes the place of an empty handle, and fills it
+ * if it returns BLINK_DONE. All other functions take a full one. A handle is freed once: by its free function, or, of a table, by its close
+ * function. A close of a map leaves the handle, which blink_map_free or blink_growing_free frees. blink_index_share and
+ * blink_reader_unshare, if they return BLINK_DONE, leave the handle empty that they take, and then it isn't freed.
  *
  * Misuse. A call out of order is refused, and its comment says by which code: while an operation is under way (BLINK_PENDING) or none is
  * (BLINK_IDLE), by a pass that was given back (BLINK_RETURNED), by one of another table or a session of another map (BLINK_FOREIGN), and a
@@ -24,10 +24,10 @@
  * use a handle; one gives it to another by what orders memory between the two: a lock, a start or join of a thread, or an atomic that one
  * stores with release order, at least, and the other loads with acquire order. Different handles may be used by different threads at the
  * same time, also readers of one index; passes of one table, and the table itself; or sessions of one map, and the map itself. No call
- * waits for another thread, but those three and the inline functions at the end. None may be called from a signal handler, or in a forked
- * child of a process with threads. Tested: what a thread wrote before a call of a pass or a session that stores a pointer is seen by
- * whoever gets this pointer from a call of another one, by a find, a glance, a scan, a snapshot or a change. So a pointer may be the
- * address of a record, which isn't changed from then on but by what orders memory itself.
+ * waits for another thread, but those three, one that renews a growing map, and the inline functions at the end. None may be called from a
+ * signal handler, or in a forked child of a process with threads. Tested: what a thread wrote before a call of a pass or a session that
+ * stores a pointer is seen by whoever gets this pointer from a call of another one, by a find, a glance, a scan, a snapshot or a change. So
+ * a pointer may be the address of a record, which isn't changed from then on but by what orders memory itself.
  *
  * No call has a cancellation point, so a thread that may be cancelled, but not at any time, ends behind its call. One that ends within a
  * call, cancelled at any time or by a jump out of a signal handler, leaves its handle as if it were never freed, and may leave a page
@@ -38,7 +38,7 @@
  *
  * Memory comes from malloc, realloc and free. A call that is refused for want of it leaves what was there as it was, except that
  * blink_table_close gives the table up, blink_index_apply has carried out the operations before, and a pass or a session may have seen
- * more after its snapshot.
+ * more after its snapshot, and one of a growing map after each call.
  */
 #ifndef BLINK_H
 #define BLINK_H
@@ -70,8 +70,8 @@ typedef struct { void *at; } blink_growing_session;
 typedef struct { uint64_t key, pointer; } blink_entry;
 
 /* An operation. A find and a deletion don't read the pointer. An exchange has a third number, for which there is no place here, so it
- * has functions of its own: blink_index_exchange, blink_pass_begin_exchange and blink_session_exchange. So has a deletion of an
- * expected pointer: blink_index_delete_exact, blink_pass_begin_delete_exact and blink_session_delete_exact. */
+ * has functions of its own: blink_index_exchange, blink_pass_begin_exchange, blink_session_exchange and blink_growing_session_exchange. So
+ * has a deletion of an expected pointer: blink_index_delete_exact and its like. */
 typedef struct { uint64_t kind, key, pointer; } blink_operation;
 
 /* An answer. The pointer is 0 where the answer tells none. */
@@ -158,6 +158,9 @@ enum {
  * file, and those of blink.hpp and blink.py take so many steps in vain before they yield. A step in vain reads a word of memory, and a
  * yield is a call of the kernel. */
 #define BLINK_TRIES 100
+
+/* The most tries of a change of a growing map that waits: each time that the map couldn't be renewed it has ten times as many, up to these. */
+#define BLINK_MOST_TRIES 1000000
 
 /* The text of a code, in a few words without a full stop. A number that is no code has one too. */
 static inline const char *blink_message(int code) {
@@ -696,9 +699,10 @@ void blink_session_free(blink_session session);
  *
  * A renewal takes the time of a copy of all entries, and memory for both maps. Searches go on meanwhile: one waits only while the sessions
  * are gathered, before the copy and after, or if its session is with the renewal, which is that of the change that renews, or of some thread
- * where blink_growing_renew does. Changes wait for all of it. A call that has to wait is refused with BLINK_RENEWING after `tries` looks,
- * and changes nothing. So is a change that finds the map full while a session is held (blink_growing_session_hold), has an operation under
- * way, or is in a call. Call again then; the functions that wait do.
+ * where blink_growing_renew does. Changes wait for all of it. Once the entries are copied, a renewal looks up to a million times for each
+ * session that is in a search. A call that has to wait is refused with BLINK_RENEWING after `tries` looks, and changes nothing. So is a
+ * change that finds the map full while a session is held (blink_growing_session_hold), has an operation under way, or is in a call. Call
+ * again then; the functions that wait do.
  *
  * Different handles may be used at the same time, each by one thread: who needs the map in another thread has a handle of it by
  * blink_growing_share. From the opening to the close, each code to be looked at:
@@ -858,13 +862,12 @@ static inline int blink_growing_session_finish(blink_growing_session *session, b
     return code;
 }
 
-/* Whether a call with this code has to begin once more; if not, `code` is how it has ended. Where the map
- * couldn't be renewed it has ten times as many tries, up to a million, so that a renewal outlasts a call of a thread that was preempted. For
- * the functions below. */
+/* Whether a call with this code has to begin once more; if not, `code` is how it has ended. Where the map couldn't be renewed it has ten times
+ * as many tries, up to BLINK_MOST_TRIES, so that a renewal outlasts a call of a thread that was preempted. For the functions below. */
 static inline bool blink_growing_session_again(blink_growing_session *session, int *code, uint32_t *tries, blink_answer *answer) {
     if (*code == BLINK_PENDING) *code = blink_growing_session_finish(session, answer);
     if (*code != BLINK_ROWS_BUSY && *code != BLINK_RENEWING) return false;
-    if (*code == BLINK_RENEWING && *tries < 1000000) *tries *= 10;
+    if (*code == BLINK_RENEWING && *tries < BLINK_MOST_TRIES) *tries *= 10;
     sched_yield();
     return true;
 }

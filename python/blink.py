@@ -60,6 +60,8 @@ Reserve = namedtuple("Reserve", "pages unwritten free taken_out waiting")
 
 # How many steps in vain an operation takes before its thread yields: BLINK_TRIES of blink.h, which says what they cost.
 _TRIES = 100
+# The most that a change of a growing map has: BLINK_MOST_TRIES.
+_MOST_TRIES = 1_000_000
 
 
 class Error(Exception):
@@ -618,7 +620,7 @@ class GrowingSession(_Ranges, _Updates):
         return self._waits(lambda tries: self._call("snapshot", *values))
 
     def _changes(self, name, *values):
-        """As the functions of blink.h that wait: where the map can't be renewed, each new try looks ten times as often, up to a million."""
+        """As the functions of blink.h that wait: where the map can't be renewed, each new try looks ten times as often, up to _MOST_TRIES."""
         values, answer, tries = [_number(value) for value in values], _Answer(), _TRIES
         with self._lock:
             code = self._call(name, *values, tries, answer)
@@ -627,7 +629,7 @@ class GrowingSession(_Ranges, _Updates):
                 if code == CODES["PENDING"]:
                     code = self._call("advance", _TRIES, answer)
                 else:
-                    tries = min(10 * tries, 1_000_000) if code == CODES["RENEWING"] else tries
+                    tries = min(10 * tries, _MOST_TRIES) if code == CODES["RENEWING"] else tries
                     code = self._call(name, *values, tries, answer)
             _check(code)
             return Answer(answer.kind, answer.pointer)

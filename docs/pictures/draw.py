@@ -3,7 +3,8 @@
 
     python3 docs/pictures/draw.py          writes the SVG files beside this script
     python3 docs/pictures/draw.py crates   prints the picture of the crates as text
-    python3 docs/pictures/draw.py check    looks whether the frames below are those of examples/tour/*.html, and the crates those of crates.txt
+    python3 docs/pictures/draw.py check    looks whether the frames below are those of examples/tour/*.html, the crates those of crates.txt, and
+                                           the SVG files what this script draws
 
 The trees below are frames of replays, line by line as the pages of examples/tour have them: `page NUMBER HOLDER LEVEL FLOOR HIGH RIGHT
 ENTRIES`, where `-` is none. Pictures without such lines are schematic.
@@ -190,7 +191,7 @@ def check():
         if not all(frames[at]["step"].startswith(f"{worker} ") for at in (first, last)):
             print(f"overtaking: worker {worker} takes no turn at {first} or {last}")
             wrong += 1
-    return wrong + check_crates()
+    return wrong + check_crates() + check_pictures()
 
 
 # ---- the crates
@@ -265,6 +266,28 @@ def crates_as_text():
 
 # ---- drawing
 
+# Each picture's text, by its file.
+DRAWN = {}
+
+
+def draw_all():
+    for draw in (pages, tree, moving_right, split, posting, overtaking, root_growth, debts, latches, deciding, row, prefixes, one_list, fronts, row_life, crates):
+        draw()
+
+
+def check_pictures():
+    draw_all()
+    there = {}
+    for name in os.listdir(HERE):
+        if name.endswith(".svg"):
+            with open(os.path.join(HERE, name), encoding="utf-8") as file:
+                there[name] = file.read()
+    wrong = sorted(name for name in set(DRAWN) | set(there) if DRAWN.get(name) != there.get(name))
+    for name in wrong:
+        print(f"docs/pictures/{name}: not what docs/pictures/draw.py draws: run it")
+    return len(wrong)
+
+
 class Picture:
     def __init__(self, width, height):
         self.width, self.height, self.parts = width, height, []
@@ -297,8 +320,7 @@ class Picture:
                 f'font-family="DejaVu Sans, Verdana, Arial, sans-serif">\n<defs>{arrows}</defs>\n'
                 f'<rect width="{self.width}" height="{self.height}" fill="white"/>\n' + "\n".join(self.parts) + "\n</svg>\n")
         ElementTree.fromstring(text)
-        with open(os.path.join(HERE, name), "w", encoding="utf-8") as file:
-            file.write(text)
+        DRAWN[name] = text
 
 
 def key_text(key):
@@ -784,8 +806,10 @@ def main():
     if sys.argv[1:] == ["crates"]:
         print(crates_as_text())
         return
-    for draw in (pages, tree, moving_right, split, posting, overtaking, root_growth, debts, latches, deciding, row, prefixes, one_list, fronts, row_life, crates):
-        draw()
+    draw_all()
+    for name, text in DRAWN.items():
+        with open(os.path.join(HERE, name), "w", encoding="utf-8") as file:
+            file.write(text)
 
 
 if __name__ == "__main__":

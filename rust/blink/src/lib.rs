@@ -33,9 +33,9 @@
 //!
 //! A `BTreeMap`'s calls have these names here. `insert` differs most: it leaves a present key as it is.
 //!
-//! `BTreeMap` | An [`Index`], and a [`Session`] of a map
+//! `BTreeMap` | An [`Index`], and a [`Session`] of a map, or a [`GrowingSession`]
 //! ---|---
-//! `new` | [`Index::new`]`(32)?` or `Index::default()`; of a map [`Map::with_capacity`]
+//! `new` | [`Index::new`]`(32)?` or `Index::default()`; of a map [`Map::with_capacity`] or [`GrowingMap::new`]
 //! `insert` | `put`, which returns the pointer before; `insert` only inserts
 //! `remove` | `remove(key).pointer()`
 //! `contains_key` | `contains`
