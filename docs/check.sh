@@ -1,7 +1,7 @@
 #!/bin/sh
 # Looks whether the documents say what is there: links and their anchors, paths, must-fail edits, names in backticks, and pictures; that EDITS.md
 # lists each edit, BELIEVE.md quotes the sources, and PROMISES.md cites clauses that there are; that neither an old word nor a merge's mark stands in them; that crates name of
-# one another's specs what their lists pass on; that C, Rust and Python count alike; and that each is short enough: README.md by lines, other
+# one another's specs what their lists pass on; that C, Rust and Python count alike, and bytes follow from a row's words; and that each is short enough: README.md by lines, other
 # documents by words of prose, and tables by the words of a cell. It prints a line for each finding and exits 1, or prints nothing and exits 0.
 # A new old word goes to `old`.
 LC_ALL=C
@@ -213,6 +213,26 @@ for it in include/blink.h rust/blink/src/map.rs python/blink.py; do
     counted=$(sed -n 's/.* + \([0-9]*\) \* .*sessions.*/\1/p' "$it" | sort -u | paste -s -d ' ' -)
     [ "$counted" = "300 $((drawn + 22))" ] || echo "$it: a room counts '$counted' for a session, not 300 rows and $((drawn + 22)) page numbers"
 done >>"$work/found"
+
+# Widths: what follows from a row's words stands in each text that tells it.
+words=$(sed -n 's/^pub const ROW_WORDS: usize = \([0-9]*\);/\1/p' crates/blink_rows/src/limits.rt)
+most_rows=$(sed -n 's/^pub const MAX_ROWS_PER_INSERT: u64 = \([0-9]*\);/\1/p' crates/blink_rows/src/limits.rt)
+row=$((8 * words))
+insertion=$(((most_rows * row + 22 * 16 + 500) / 1000))
+session=$((((drawn + 22) * 16 + (2 * (drawn + 22) + 300) * row + 500) / 1000))
+while read -r text pages; do
+    for page in $pages; do
+        grep -qF "$(echo "$text" | tr _ ' ')" "$page" || echo "$page: doesn't say $(echo "$text" | tr _ ' '), as follows from rows of $words words"
+    done
+done >>"$work/found" <<TEXTS
+${words}_words docs/BOOK.md docs/FORMATS.md docs/GLOSSARY.md docs/pictures/draw.py
+${row}_bytes rust/blink/src/map.rs crates/blink_live/src/open.rt
+|_$row; docs/CHOOSING.md
+|_$insertion,000 docs/CHOOSING.md
+${insertion}_KB docs/FORMATS.md bench/README.md crates/blink_live/src/open.rt crates/blink_settings/src/settings.rt rust/blink/src/table.rs .ci/settings.sh
+|_$session,000 docs/CHOOSING.md
+0.$(((session + 50) / 100))_MB include/blink.h rust/blink/src/map.rs
+TEXTS
 
 # Tries: C, Rust and Python take the same number of steps in vain, at first and at most.
 for it in TRIES MOST_TRIES; do
