@@ -1,8 +1,9 @@
 #!/bin/sh
-# Looks whether the documents say what is there: links and their anchors, paths, must-fail edits, names in backticks, and pictures; that EDITS.md
-# lists each edit, BELIEVE.md quotes the sources, and PROMISES.md cites clauses that there are; that neither an old word nor a merge's mark stands in them; that crates name of
-# one another's specs what their lists pass on; that C, Rust and Python count alike, and bytes follow from a row's words; and that each is short enough: README.md by lines, other
-# documents by words of prose, and tables by the words of a cell. It prints a line for each finding and exits 1, or prints nothing and exits 0.
+# Looks whether the documents say what is there: links and their anchors, paths, must-fail edits, names in backticks and the files where they
+# are said to stand, and pictures; that EDITS.md lists each edit, BELIEVE.md quotes the sources, and PROMISES.md cites clauses that there are;
+# that neither an old word nor a merge's mark stands in them; that crates name of one another's specs what their lists pass on; that C, Rust and
+# Python count alike, and bytes follow from a row's words; and that each is short enough: README.md by lines, other documents by words of prose,
+# and tables by the words of a cell. It prints a line for each finding and exits 1, or prints nothing and exits 0.
 # A new old word goes to `old`.
 LC_ALL=C
 export LC_ALL
@@ -249,10 +250,11 @@ for it in "$most_lines lines" "$(echo $most_words | sed 's/...$/,&/') words" "$m
 done >>"$work/found"
 
 # Pictures: they are what their script draws, the frames those of the tour, and the crates those of crates.txt. Figures that are quoted of the
-# tables are those of today's. The tour's pictures were made of its pages as they are.
+# tables are those of today's. Names stand in the files that are named for them. The tour's pictures were made of its pages as they are.
 if command -v python3 >/dev/null; then
     python3 docs/pictures/draw.py check >>"$work/found"
     python3 docs/figures.py check >>"$work/found"
+    python3 docs/places.py >>"$work/found"
 fi
 (cd examples/tour && sha256sum --check --quiet pictures/SUMS 2>/dev/null) |
     sed 's|^\([^:]*\):.*|examples/tour/\1: its pictures were made of another page: run examples/tools/see.sh|' >>"$work/found"
