@@ -1,6 +1,6 @@
 #!/bin/sh
 # Looks whether the documents say what is there: links and their anchors, paths, must-fail edits, names in backticks and the files where they
-# are said to stand, and pictures; that EDITS.md lists each edit, BELIEVE.md quotes the sources, and PROMISES.md cites clauses that there are;
+# are said to stand, and pictures; that EDITS.md lists each edit, BELIEVE.md quotes the sources, and PROMISES.md has each export and cites clauses that there are;
 # that neither an old word nor a merge's mark stands in them; that crates name of one another's specs what their lists pass on; that C, Rust and
 # Python count alike, and bytes follow from a row's words; and that each is short enough: README.md by lines, other documents by words of prose,
 # and tables by the words of a cell. It prints a line for each finding and exits 1, or prints nothing and exits 0.
@@ -193,6 +193,11 @@ awk -v clauses="$work/clauses" '
 # Codes: FORMATS.md has a row with the number and the name of each code of the header.
 sed -n 's/^ *\(BLINK_[A-Z_]*\) = \([1-9][0-9]*\),* .*/\2 \1/p' include/blink.h | sed '1,/ BLINK_REPLACED/d' | while read -r number name; do
     grep -q "^$number | .*\`$name\`" docs/FORMATS.md || echo "docs/FORMATS.md: no row for code $number, $name"
+done >>"$work/found"
+
+# Exports: PROMISES.md has a row for each.
+cat crates/blink_c/src/*.rt | sed -n 's/^pub extern "C" fn \([a-z_]*\).*/\1/p' | while read -r name; do
+    grep -q "^[^|]*\`$name\`" docs/PROMISES.md || echo "docs/PROMISES.md: no row for the export $name"
 done >>"$work/found"
 
 # The wall of a crate: no other crate names a file of specs/ that stands below "no crate above names" in Lib.antt, and some crate each that stands
