@@ -515,9 +515,9 @@ void blink_pass_free(blink_pass pass);
  *     blink_map_close(&map, &closed);
  *     blink_map_free(map);
  *
- * A map doesn't grow. Once its page numbers are used up, insertions of absent keys are refused with BLINK_FULL; finds, deletions and puts
- * of present keys go on. For more keys, free the sessions, close the map, pack the index by blink_index_compact, and open a larger map over
- * it. examples/c/session_cache.c is a whole program.
+ * A map doesn't grow; a growing map, below, does. Once its page numbers are used up, insertions of absent keys are refused with
+ * BLINK_FULL; finds, deletions and puts of present keys go on. For more keys, free the sessions, close the map, pack the index by
+ * blink_index_compact, and open a larger map over it. examples/c/session_cache.c is a whole program.
  */
 
 /* Opens a map over the index, which stays as it is, with places for 1 to 256 sessions. While it opens, it takes twice the memory that the

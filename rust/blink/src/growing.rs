@@ -163,9 +163,10 @@ impl std::error::Error for UnclosedGrowing {}
 /// can be taken again.
 ///
 /// Its calls are those of [`Session`](crate::Session), and promise the same through all renewals; but it has no `tell`, no `reserve`, and no
-/// operations by steps. None is refused with [`Error::Full`]. A change waits while the map is renewed, and a search only while the renewal gathers the sessions, or if [`GrowingMap::renew`] has taken this
-/// one for its copy. A change waits also for a page that another session has just then, and a change that finds the map full
-/// waits while another session is [held](GrowingSession::hold), so that the map can't be renewed.
+/// operations by steps. None is refused with [`Error::Full`]. A change waits while the map is renewed, and a search only while the renewal
+/// gathers the sessions, or if [`GrowingMap::renew`] has taken this one for its copy. A change waits also for a page that another session has
+/// just then, and a change that finds the map full waits while another session is [held](GrowingSession::hold), so that the map can't be
+/// renewed.
 pub struct GrowingSession {
     handle: Handle,
 }

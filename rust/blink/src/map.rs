@@ -118,9 +118,10 @@ pub struct Reserve {
 ///
 /// # A map that is full
 ///
-/// A map doesn't grow. Once its page numbers are used up, insertions of absent keys are refused with [`Error::Full`]. Look-ups, removals and puts
-/// of present keys go on, and removals bring no page number back. For more keys, drop the sessions, close the map, compact the index, and open
-/// a larger map over it. A thread whose session owns a share of the map ([`Map::session_owned`]) drops it, and gets one of the new map.
+/// A map doesn't grow, and a [`GrowingMap`](crate::GrowingMap) does. Once a map's page numbers are used up, insertions of absent keys are refused
+/// with [`Error::Full`]. Look-ups, removals and puts of present keys go on, and removals bring no page number back. For more keys, drop the
+/// sessions, close the map, compact the index, and open a larger map over it. A thread whose session owns a share of the map
+/// ([`Map::session_owned`]) drops it, and gets one of the new map.
 ///
 /// ```
 /// use blink::{Error, Index, Map, Room};
