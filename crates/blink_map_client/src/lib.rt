@@ -2,8 +2,6 @@
 #![tactic(auto)]
 
 mod counter;
-#[cfg(test)]
-mod tests;
 
 ghost use Rattle.std.specs.Prelude.{◌≡◌, ◌≢◌, ◌⊎◌, ℕ, All, length, IfErr, IfOk, IsErrOf, Some};
 ghost use Rattle.blink_batch.specs.{pointer_of};

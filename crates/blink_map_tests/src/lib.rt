@@ -4,6 +4,8 @@
 #[cfg(test)]
 mod beside;
 #[cfg(test)]
+mod clients;
+#[cfg(test)]
 mod ends;
 #[cfg(test)]
 mod filling;

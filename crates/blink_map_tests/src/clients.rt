@@ -1,14 +1,14 @@
-//! Each call is run once: over an index that maps 5 to 50.
+//! Each call of `blink_map_client` is run once: over an index that maps 5 to 50.
 ghost use Rattle.std.specs.Prelude.{◌≡◌, ◌≢◌};
 ghost use Rattle.blink_map.specs.{IsSessionOf, place_of, places_of};
 
-use crate::{
-    Counted, NotInserted, NotRaised, close_with_all, insert_and_find, insert_and_show,
-    insert_by_two, open_and_close, open_and_find, raise, raise_by_two, raise_times,
-};
 use blink_batch::{Answer, Op};
 use blink_index::Index;
 use blink_map::{Map, Room, Session};
+use blink_map_client::{
+    Counted, NotInserted, NotRaised, close_with_all, insert_and_find, insert_and_show,
+    insert_by_two, open_and_close, open_and_find, raise, raise_by_two, raise_times,
+};
 use std::alloc::Global;
 use std::process::Abort;
 use std::sync::Wait;
