@@ -31,8 +31,6 @@ mod slots;
 mod snapshot;
 mod start;
 mod tell;
-#[cfg(test)]
-mod tests;
 mod try_reads;
 mod waiting;
 mod worn;

@@ -11,8 +11,8 @@ pub(crate) struct Patience {
     pub(crate) looks: u32,
 }
 
-// How often a renewal looks for a session that a call has. It yields the processor between two tries, since the thread of that call may
-// have none. All calls wait meanwhile.
+// How often a renewal looks for a session that a call has. It spins between two looks, since a static library links no call that yields. All
+// calls wait meanwhile.
 pub(crate) const RENEWAL: Patience = Patience {
     tries: 1_000,
     looks: 1_000,
@@ -21,7 +21,7 @@ pub(crate) const RENEWAL: Patience = Patience {
 // The same of a close, when nobody is in a call. So a session that isn't in its slot at the first look stays away.
 pub(crate) const CLOSE: Patience = Patience { tries: 1, looks: 1 };
 
-// How often a renewal waits a moment before it gathers the sessions, so that a call which has found none under way has taken its slot.
+// How often a renewal spins before it gathers the sessions, so that a call which has found none under way has taken its slot.
 pub(crate) const GRACE: u32 = 1_000;
 
 // How often a snapshot of all keys is tried for the copy. Changes wait meanwhile, but for those of a call that was about to take its slot.

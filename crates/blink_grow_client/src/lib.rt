@@ -1,9 +1,6 @@
 //! What callers of a growing map know from its contracts alone, whatever is renewed meanwhile.
 #![tactic(auto)]
 
-#[cfg(test)]
-mod tests;
-
 ghost use Rattle.std.specs.Prelude.{◌≡◌, ◌≢◌, ℕ, IfOk, IsErrOf};
 ghost use Rattle.blink_grow.specs.{IsSessionOf, place_of, places_of, seen_by};
 ghost use Rattle.blink_map_client.specs.{IsShown, OneIsInserted};

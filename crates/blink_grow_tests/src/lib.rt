@@ -2,6 +2,8 @@
 #![tactic(auto)]
 
 #[cfg(test)]
+mod clients;
+#[cfg(test)]
 mod ends;
 #[cfg(test)]
 mod growth;
@@ -9,6 +11,8 @@ mod growth;
 mod held;
 #[cfg(test)]
 mod memory;
+#[cfg(test)]
+mod renewals;
 #[cfg(test)]
 mod same;
 #[cfg(test)]

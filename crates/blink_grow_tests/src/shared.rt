@@ -1,7 +1,7 @@
 //! A growing map and one session, whose calls have no condition: what is so of them is in the type.
-ghost use Rattle.std.specs.Prelude.{All, IfOk};
+ghost use Rattle.std.specs.Prelude.{◌≡◌, ◌≢◌, All, IfOk};
 ghost use Rattle.blink_batch.specs.{FitsWords};
-ghost use Rattle.blink_grow.specs.{IsHeldOf, IsPendingOf, IsSessionOf, IsUpdate};
+ghost use Rattle.blink_grow.specs.{IsHeldOf, IsPendingOf, IsSessionOf, IsUpdate, place_of, places_of};
 
 use crate::same::same_for;
 use blink_batch::{Answer, Op};
@@ -262,4 +262,17 @@ fn to_end<R: Wait>(rt: &R, map: &GrowingMap, pending: PendingHeld) -> (Held, Ans
         thread::yield_now();
     }
     unreachable!()
+}
+
+// An empty map, and its two sessions.
+pub(crate) fn two(rt: &impl Abort, alloc: Global) -> (GrowingMap, Session, Session)
+    ensures ones { IsSessionOf result.0 result.1 }
+    ensures others { IsSessionOf result.0 result.2 }
+    ensures apart { place_of result.1 ≢ place_of result.2 }
+    ensures no_third { places_of result.0 ≡ 2 }
+{
+    let (map, mut sessions) = GrowingMap::new(alloc, 2).expect(rt, "no map");
+    let other = sessions.pop().expect(rt, "no second session");
+    let one = sessions.pop().expect(rt, "no session");
+    (map, one, other)
 }

@@ -5,7 +5,7 @@ use lib.ListN.{get_elem?}
 use Rattle.blink_grow.specs.declared.growing.GrowingMap.{GrowingMap}
 use Rattle.blink_grow.specs.declared.growing.Session.{Session}
 use Rattle.blink_grow.specs.{AreFirstSessions, place_of}
-use Rattle.blink_grow_client.proofs.tests.two.Goals as goal
+use Rattle.blink_grow_tests.proofs.shared.two.Goals as goal
 
 if_ok : {A E : Type 0} (r : Result A E) (P : A → Type 0) (a : A) → r ≡ Ok a → IfOk r P → P a
 if_ok (Ok b) P a is holds = let same : b ≡ a = cc in subst P same holds
