@@ -10,6 +10,8 @@ mod held;
 #[cfg(test)]
 mod memory;
 #[cfg(test)]
+mod room;
+#[cfg(test)]
 mod same;
 #[cfg(test)]
 mod shared;
