@@ -144,7 +144,8 @@ enum {
     BLINK_MAP_TOO_LARGE = 101,     /* the index's pages and the page numbers of the room are above 1,048,575 */
     BLINK_BAD_SESSIONS = 102,      /* there are to be no sessions, or more than 256 */
     BLINK_NO_SESSION = 103,          /* each place for a session was taken, or the map is closed */
-    BLINK_FULL = 105,              /* the session has too few rows or page numbers in all, and the map's pool too */
+    BLINK_FULL = 105,              /* the session has too few rows or page numbers in all, and the map's pool too; or a growing map was to be
+                                    * renewed whose room is fixed */
     BLINK_SESSION_MISSING = 106,   /* the handle of a session, or another handle of the map, isn't freed */
     BLINK_ROWS_BUSY = 107,         /* the session has enough rows and page numbers in all, but some rows are on their way back */
     BLINK_MAP_CLOSED = 108,        /* the map is closed, or a close of it has begun */
@@ -694,8 +695,9 @@ void blink_session_free(blink_session session);
 /* ---- The growing map: a map that has no room to be told. ----
  *
  * It is one map after another. A change that finds no room renews it: all sessions are gathered, the entries are copied into another map
- * with more room, and all go on there. So it is never refused with BLINK_FULL. What the calls of sessions promise is that of the map's, and
- * there is one list of changes, which goes on through all renewals.
+ * with more room, and all go on there. So it is never refused with BLINK_FULL, unless the map's room is fixed
+ * (blink_growing_open_with_room). What the calls of sessions promise is that of the map's, and there is one list of changes, which goes on
+ * through all renewals.
  *
  * A renewal takes the time of a copy of all entries, and memory for both maps. Searches go on meanwhile: one waits only while the sessions
  * are gathered, before the copy and after, or if its session is with the renewal, which is that of the change that renews, or of some thread
@@ -720,6 +722,13 @@ void blink_session_free(blink_session session);
  * BLINK_MAP_TOO_LARGE, if the index leaves too few of the 1,048,575 page numbers; BLINK_NO_MEMORY. */
 int blink_growing_open(const blink_index *index, uint32_t sessions, blink_growing *out);
 
+/* Opens a growing map as blink_growing_open does, which has so many page numbers and rows for its first changes. blink_map_open says what
+ * they are, and blink_room_for works them out. Where a change finds too few left, the map is renewed, and grows as any other. But if its room
+ * is `fixed`, it is never renewed, so no call waits for a copy: such a change is refused with BLINK_FULL, an insertion only if its key is
+ * absent, and all other calls go on. Refused: BLINK_BAD_SESSIONS; BLINK_MAP_TOO_LARGE, if the index's pages and `pages` are above 1,048,575;
+ * BLINK_NO_MEMORY. */
+int blink_growing_open_with_room(const blink_index *index, uint32_t pages, uint32_t rows, uint32_t sessions, bool fixed, blink_growing *out);
+
 /* Gives one more handle of the map. It takes memory for the handle alone. Refused: BLINK_MAP_CLOSED, if a close of the map has begun;
  * BLINK_NO_MEMORY. */
 int blink_growing_share(blink_growing *map, blink_growing *out);
@@ -731,7 +740,8 @@ int blink_growing_join(blink_growing *map, blink_growing_session *out);
 /* Renews the map in good time, which spares other threads the renewal, and not the pause of their changes. It looks `looks` times for each
  * session that is held or in a call. It copies by a session that nobody has, or else by one whose searches wait meanwhile. Refused:
  * BLINK_RENEWING, if one was at each look, or another thread was renewing the map; BLINK_MAP_TOO_LARGE; BLINK_NO_MEMORY; BLINK_MAP_CLOSED.
- * Then the map goes on with the room that it has left. */
+ * Then the map goes on with the room that it has left. If the room of an open map is fixed, the call is refused with BLINK_FULL, and with
+ * nothing else; no other map is refused with it. */
 int blink_growing_renew(blink_growing *map, uint32_t looks);
 
 /* Closes the map, and gives an index of its entries in as few pages as they need, in an empty handle. The handle of the map stays, and is
@@ -755,10 +765,11 @@ int blink_growing_session_snapshot(blink_growing_session *session, uint64_t lo, 
                                    size_t places, blink_taken *taken);
 
 /* Insert, delete, replace or exchange any key, or delete it if its pointer is `expected`: as blink_session_insert and its like do. Where the
- * map is full they renew it, and take memory then. It returns BLINK_PENDING where the operation waits for another session after `tries`
- * steps in vain: then it goes on by blink_growing_session_advance, and the session is held until it has ended. Refused: BLINK_PENDING, if an
- * operation was under way before, and then nothing changes; BLINK_RENEWING; BLINK_ROWS_BUSY, if rows of the session are on their way back;
- * BLINK_MAP_TOO_LARGE; BLINK_NO_MEMORY. The operation isn't made then, and may be begun again. */
+ * map is full they renew it, unless its room is fixed, and take memory then. It returns BLINK_PENDING where the operation waits for another
+ * session after `tries` steps in vain: then it goes on by blink_growing_session_advance, and the session is held until it has ended. Refused:
+ * BLINK_PENDING, if an operation was under way before, and then nothing changes; BLINK_RENEWING; BLINK_ROWS_BUSY, if rows of the session are
+ * on their way back; BLINK_MAP_TOO_LARGE; BLINK_NO_MEMORY; BLINK_FULL, only if the map's room is fixed. The operation isn't made then, and
+ * may be begun again. */
 int blink_growing_session_insert(blink_growing_session *session, uint64_t key, uint64_t pointer, uint32_t tries, blink_answer *answer);
 int blink_growing_session_delete(blink_growing_session *session, uint64_t key, uint32_t tries, blink_answer *answer);
 int blink_growing_session_replace(blink_growing_session *session, uint64_t key, uint64_t pointer, uint32_t tries, blink_answer *answer);

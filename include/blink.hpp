@@ -504,6 +504,11 @@ private:
 class GrowingMap {
 public:
     GrowingMap(Index &index, std::uint32_t sessions) { detail::check(blink_growing_open(&index.handle_, sessions, &handle_)); }
+    // Has this room for its first changes. If that is fixed, the map is never renewed, so no call waits for a copy, and a change that finds
+    // it full has error BLINK_FULL.
+    GrowingMap(Index &index, Room room, bool fixed = false) {
+        detail::check(blink_growing_open_with_room(&index.handle_, room.pages, room.rows, room.sessions, fixed, &handle_));
+    }
     GrowingMap share() {
         GrowingMap map;
         detail::check(blink_growing_share(&handle_, &map.handle_));

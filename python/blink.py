@@ -157,6 +157,7 @@ def _declared():
     yield "blink_pass_begin_delete", CODE, handle, u64
     yield "blink_pass_begin_exchange", CODE, handle, u64, u64, u64
     yield "blink_growing_open", CODE, handle, u32, handle
+    yield "blink_growing_open_with_room", CODE, handle, u32, u32, u32, truth, handle
     yield "blink_growing_join", CODE, handle, handle
     yield "blink_growing_renew", CODE, handle, u32
     yield "blink_growing_close", CODE, handle, handle
@@ -668,6 +669,17 @@ class GrowingMap(_Owner):
         with index._lock:
             index._is_open()
             _check(_library.blink_growing_open(index._handle, sessions, self._handle))
+
+    @classmethod
+    def with_room(cls, index, pages, rows, sessions, fixed=False):
+        """With this room for its first changes; `room_for` works out pages and rows. If that is fixed, the map is never renewed, so no call
+        waits for a copy, and a change that finds it full has error FULL."""
+        room = [_number(it, 32) for it in (pages, rows, sessions)]
+        if type(index) is not Index:
+            raise TypeError("it is opened over an Index")
+        with index._lock:
+            index._is_open()
+            return cls._filled(lambda out: _library.blink_growing_open_with_room(index._handle, *room, bool(fixed), out))
 
     def join(self):
         return GrowingSession._filled(lambda out: self._call("join", out))

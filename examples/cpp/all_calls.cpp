@@ -157,6 +157,21 @@ static void shares_a_growing_map() {
     CHECK(refused(BLINK_BAD_SESSIONS, [&] { blink::GrowingMap(index, 257); }));
 }
 
+// A room of its user's choice. The leaf has 4 entries, and there are rows for one split, which the fifth insertion makes.
+static void chooses_the_room_of_a_growing_map(bool fixed) {
+    blink::Index index(4);
+    blink::GrowingMap map(index, blink::Room{200, 44, 1}, fixed);
+    {
+        blink::GrowingSession session = map.join();
+        for (std::uint64_t key = 1; key < 6; key++) CHECK(is(session.insert(key, 10 * key), BLINK_INSERTED, 0));
+        CHECK(fixed == refused(BLINK_FULL, [&] { session.insert(6, 60); }) && session.find(6).has_value() != fixed);
+        CHECK(fixed == refused(BLINK_FULL, [&] { map.renew(); }));
+        CHECK(session.put(5, 51) == 50u && is(session.remove(1), BLINK_REMOVED, 10) && session.find(5) == 51u);
+    }
+    CHECK(map.close().size() == (fixed ? 4u : 5u));
+    CHECK(refused(BLINK_MAP_TOO_LARGE, [&] { blink::GrowingMap(index, blink::Room{1048575, 44, 1}, fixed); }));
+}
+
 static void shares_a_table() {
     blink::Index index(16);
     blink::Table table(index, 2000, 10);
@@ -192,6 +207,8 @@ int main() {
     shares_an_index();
     shares_a_map();
     shares_a_growing_map();
+    chooses_the_room_of_a_growing_map(false);
+    chooses_the_room_of_a_growing_map(true);
     shares_a_table();
     std::puts("all calls are as expected");
 }

@@ -206,6 +206,29 @@ def shares_a_growing_map():
     refuses(TypeError, blink.GrowingMap, 4, 4)
 
 
+def chooses_the_room_of_a_growing_map(fixed):
+    """A room of its user's choice. The leaf has 4 entries, and there are rows for one split, which the fifth insertion makes."""
+    index = blink.Index(4)
+    shared = blink.GrowingMap.with_room(index, 200, 44, 1, fixed)
+    session = shared.join()
+    for key in range(1, 6):
+        assert session.insert(key, 10 * key) == (INSERTED, 0)
+    if fixed:
+        assert refuses(blink.Error, session.insert, 6, 60).name == "FULL" and session.find(6) is None
+        assert refuses(blink.Error, shared.renew).name == "FULL"
+    else:
+        assert session.insert(6, 60) == (INSERTED, 0) and session.find(6) == 60
+        shared.renew()
+    assert session.put(5, 51) == 50 and session.remove(1) == (REMOVED, 10) and session.find(5) == 51
+    session.free()
+    assert len(shared.close()) == (4 if fixed else 5)
+    grows = blink.GrowingMap.with_room(index, *blink.room_for(index, 100, 1))
+    grows.renew()
+    assert len(grows.close()) == 0
+    assert refuses(blink.Error, blink.GrowingMap.with_room, index, 2**20 - 1, 44, 1, fixed).name == "MAP_TOO_LARGE"
+    refuses(TypeError, blink.GrowingMap.with_room, 4, 200, 44, 1)
+
+
 def shares_a_table():
     index = blink.Index()
     table = blink.Table(index, 200, 10)
@@ -242,5 +265,7 @@ uses_an_index()
 shares_an_index()
 shares_a_map()
 shares_a_growing_map()
+chooses_the_room_of_a_growing_map(False)
+chooses_the_room_of_a_growing_map(True)
 shares_a_table()
 print("all calls are as expected")

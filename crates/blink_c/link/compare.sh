@@ -124,6 +124,7 @@ SESSION_MISSING ../blink_owners/specs/MapCodes.antt Missing
 MAP_CLOSED ../blink_owners/specs/MapCodes.antt Closed
 ROWS_BUSY ../blink_owners/specs/MapCodes.antt RowsBusy
 RENEWING ../blink_owners/specs/GrowCodes.antt Busy
+FULL ../blink_owners/specs/GrowCodes.antt Full
 WORDS
     # The structs of numbers, field by field.
     awk '/^pub struct (Raw|Entry)/ { name = $3; on = 1; print "struct " name " {"; next }

@@ -1072,6 +1072,35 @@ static void changes_a_growing_map(void) {
     blink_growing_free(map);
 }
 
+// A growing map with a room that is fixed or not. Its leaf has 4 entries, and there are rows for one split: the fifth insertion makes it.
+static void opens_a_growing_map_with_room(bool fixed) {
+    blink_index index = {NULL}, closed = {NULL};
+    blink_growing map = {NULL};
+    blink_growing_session session = {NULL};
+    blink_answer answer = {9, 9};
+    CHECK(blink_index_new(4, &index) == BLINK_DONE);
+    CHECK(blink_growing_open_with_room(&index, 200, 44, 0, fixed, &map) == BLINK_BAD_SESSIONS);
+    CHECK(blink_growing_open_with_room(&index, 200, 44, 257, fixed, &map) == BLINK_BAD_SESSIONS);
+    CHECK(blink_growing_open_with_room(&index, 1048575, 44, 1, fixed, &map) == BLINK_MAP_TOO_LARGE && map.at == NULL);
+    CHECK(blink_growing_open_with_room(&index, 200, 44, 1, fixed, &map) == BLINK_DONE);
+    blink_index_free(index);
+    CHECK(blink_growing_join(&map, &session) == BLINK_DONE);
+    for (uint64_t key = 1; key < 6; key++)
+        CHECK(blink_growing_session_insert_wait(&session, key, 10 * key, &answer) == BLINK_DONE && is(answer, BLINK_INSERTED, 0));
+    CHECK(blink_growing_session_insert_wait(&session, 6, 60, &answer) == (fixed ? BLINK_FULL : BLINK_DONE));
+    CHECK(grows(&session, 6, fixed ? BLINK_ABSENT : BLINK_FOUND, fixed ? 0 : 60));
+    CHECK(blink_growing_renew(&map, 1) == (fixed ? BLINK_FULL : BLINK_DONE));
+    CHECK(blink_growing_session_insert_wait(&session, 5, 51, &answer) == BLINK_DONE && is(answer, BLINK_EXISTS, 50));
+    CHECK(blink_growing_session_put_wait(&session, 5, 52, &answer) == BLINK_DONE && is(answer, BLINK_REPLACED, 50));
+    CHECK(blink_growing_session_delete_wait(&session, 1, &answer) == BLINK_DONE && is(answer, BLINK_REMOVED, 10));
+    CHECK(grows(&session, 5, BLINK_FOUND, 52) && grows(&session, 1, BLINK_ABSENT, 0));
+    blink_growing_session_free(session);
+    CHECK(blink_growing_close(&map, &closed) == BLINK_DONE && blink_index_len(&closed) == (fixed ? 4 : 5));
+    blink_index_free(closed);
+    CHECK(blink_growing_renew(&map, 1) == BLINK_MAP_CLOSED);
+    blink_growing_free(map);
+}
+
 static void *grows_from_nothing(void *at) {
     blink_growing *map = at;
     blink_growing_session session = {NULL};
@@ -1217,6 +1246,8 @@ int main(int argc, char **argv) {
     if (argc == 1) joins_at_once();
     shares_an_index();
     changes_a_growing_map();
+    opens_a_growing_map_with_room(false);
+    opens_a_growing_map_with_room(true);
     grows_by_threads();
     long requests = 0;
     do refused_at = requests++;

@@ -1,7 +1,7 @@
 -- The codes of the refusals of a growing map or its session.
 use Rattle.std.proofs.Common.{◌≡◌, arith}
 use Rattle.blink_owners.specs.declared.grow_refusal.GrowRefusal.{GrowRefusal}
-use Rattle.blink_owners.specs.declared.grow_refusal.GrowRefusal.TheVariants.{OutOfMemory, TooLarge, Sessions, NoSession, Busy, RowsBusy, Missing, UnderWay, Idle, Closed}
+use Rattle.blink_owners.specs.declared.grow_refusal.GrowRefusal.TheVariants.{OutOfMemory, TooLarge, Sessions, NoSession, Busy, Full, RowsBusy, Missing, UnderWay, Idle, Closed}
 use Rattle.blink_owners.specs.GrowCodes.{code_of}
 
 -- no refusal has the code of a call that isn't refused
@@ -11,6 +11,7 @@ not_done TooLarge is = omega (arith, is)
 not_done Sessions is = omega (arith, is)
 not_done NoSession is = omega (arith, is)
 not_done Busy is = omega (arith, is)
+not_done Full is = omega (arith, is)
 not_done RowsBusy is = omega (arith, is)
 not_done Missing is = omega (arith, is)
 not_done UnderWay is = omega (arith, is)

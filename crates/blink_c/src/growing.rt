@@ -1,9 +1,10 @@
 //! The exports of a growing map.
-ghost use Rattle.std.specs.Prelude.{◌≡◌, ◌≢◌, ◌↔◌, None, IfSome, IsSome};
+ghost use Rattle.std.specs.Prelude.{◌≡◌, ◌≢◌, ◌↔◌, None, IfSome, IsFalse, IsSome};
+ghost use Rattle.blink_grow.specs.{is_fixed};
 ghost use Rattle.blink_index.specs.{map_of};
 ghost use Rattle.blink_owners.specs.Codes.{TellsWhy};
 ghost use Rattle.blink_owners.specs.GrowCodes.{code_of};
-ghost use Rattle.blink_owners.specs.Growing.{CanClose, IsClosedGrowing, IsCloseFault, IsJoinFault, IsNewGrowing, IsOpenFault, IsOwnGrowing, IsOwnerOfSame, IsRenewFault, IsShareFault, Joins, growing_in};
+ghost use Rattle.blink_owners.specs.Growing.{CanClose, IsClosedGrowing, IsCloseFault, IsJoinFault, IsNewGrowing, IsOpenFault, IsOpenFixed, IsOwnGrowing, IsOwnerOfSame, IsRenewFault, IsShareFault, Joins, growing_in};
 ghost use Rattle.blink_owners.specs.GrowingSessions.{IsOwnSession};
 
 use crate::growing_handle::GrowingHandle;
@@ -11,12 +12,13 @@ use crate::growing_session_slot::GrowingSessionSlot;
 use crate::growing_slot::GrowingSlot;
 use crate::index_handle::IndexHandle;
 use crate::index_slot::IndexSlot;
+use blink_grow::Room;
 use blink_owners::grow_refusal::code_of;
 use blink_owners::growing_owner::GrowingOwner;
 use blink_owners::refusal::{Code, DONE};
 use std::alloc::Global;
 
-/// Opens a growing map over the index, with so many sessions.
+/// Opens a growing map over the index, with so many sessions. It grows as it has to.
 #[unsafe(no_mangle)]
 pub extern "C" fn blink_growing_open(
     alloc: Global,
@@ -28,11 +30,47 @@ pub extern "C" fn blink_growing_open(
     ensures opened { result ≡ 0 → IsSome out.new.value × IfSome out.new.value
         (IsNewGrowing (map_of index.old.value) sessions) }
     ensures its_own { IfSome out.new.value IsOwnGrowing }
+    ensures grows { IfSome out.new.value (λ map. IsFalse (is_fixed (growing_in map))) }
     ensures refused { TellsWhy code_of IsOpenFault result }
     ensures unchanged { result ≢ 0 → out.new.value ≡ None }
     ensures same { index.new.value ≡ index.old.value }
 {
     match GrowingOwner::open(alloc, index.get(), sessions) {
+        Ok(map) => {
+            *out = GrowingSlot::of(map);
+            DONE
+        }
+        Err(refusal) => refusal.code(),
+    }
+}
+
+/// Opens a growing map over the index, with this room for its first changes. If the room is fixed, the map is never renewed, and its
+/// changes are refused where it is full.
+#[unsafe(no_mangle)]
+pub extern "C" fn blink_growing_open_with_room(
+    alloc: Global,
+    index: &mut IndexHandle,
+    pages: u32,
+    rows: u32,
+    sessions: u32,
+    fixed: bool,
+    out: &mut GrowingSlot,
+) -> Code
+    requires { out.old.value ≡ None }
+    ensures opened { result ≡ 0 → IsSome out.new.value × IfSome out.new.value
+        (IsNewGrowing (map_of index.old.value) sessions) }
+    ensures its_own { IfSome out.new.value IsOwnGrowing }
+    ensures room { IfSome out.new.value (λ map. is_fixed (growing_in map) ≡ fixed) }
+    ensures refused { TellsWhy code_of IsOpenFault result }
+    ensures unchanged { result ≢ 0 → out.new.value ≡ None }
+    ensures same { index.new.value ≡ index.old.value }
+{
+    let room = Room {
+        pages,
+        rows,
+        sessions,
+    };
+    match GrowingOwner::open_with_room(alloc, index.get(), room, fixed) {
         Ok(map) => {
             *out = GrowingSlot::of(map);
             DONE
@@ -91,10 +129,12 @@ pub extern "C" fn blink_growing_join(
     }
 }
 
-/// Renews the map: its entries are packed into another one, with new room. It looks so many times for each session that is in a call.
+/// Renews the map: its entries are packed into another one, with new room. It looks so many times for each session that is in a call. A map
+/// whose room is fixed is never renewed.
 #[unsafe(no_mangle)]
 pub extern "C" fn blink_growing_renew(alloc: Global, map: &mut GrowingHandle, looks: u32) -> Code
-    ensures refused { TellsWhy code_of IsRenewFault result }
+    ensures refused { TellsWhy code_of (IsRenewFault map.old.value.state) result }
+    ensures fixed { IsOpenFixed map.old.value.state → result ≡ 105 }
     ensures same { map.new.value ≡ map.old.value }
 {
     code_of(&map.get().renew(alloc, looks))

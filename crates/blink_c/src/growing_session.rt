@@ -103,8 +103,8 @@ pub extern "C" fn blink_growing_session_snapshot(
     )
 }
 
-/// Adds an entry. Where the map is full, the call renews it. After `tries` steps in vain it returns with the insertion under way, which
-/// goes on by `blink_growing_session_advance`.
+/// Adds an entry. Where the map is full, the call renews it, unless its room is fixed. After `tries` steps in vain it returns with the
+/// insertion under way, which goes on by `blink_growing_session_advance`.
 #[unsafe(no_mangle)]
 pub extern "C" fn blink_growing_session_insert(
     alloc: Global,

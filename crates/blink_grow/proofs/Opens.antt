@@ -1,10 +1,11 @@
 -- Sessions are laid into slots, and dealt.
-use Rattle.std.proofs.Common.{◌≡◌, ℕ, zero, suc, ◌+◌, ◌-◌, ◌<◌, Option, Some, None, List, [], ◌∷◌, ◌++◌, length, drop, take, get_or, length-append, refl, sym, ap, ◌∙◌, subst, ⊎_elim, arith}
+use Rattle.std.proofs.Common.{◌≡◌, ℕ, zero, suc, ◌+◌, ◌-◌, ◌<◌, Option, Some, None, List, [], ◌∷◌, ◌++◌, ◌≤◌, ◌⊎◌, length, drop, take, get_or, length-append, refl, sym, ap, ◌∙◌, subst, ⊎_elim, inl, inr, arith}
 use Rattle.std.specs.Prelude.{slice_index_or, All}
 use mathlib.Core.Option.{some, some-injective, some-ne-none}
 use mathlib.Core.Logic.{dite}
 use native.Mathlib.Decide.{ℕ_discrete}
 use lib.ListN.{get_elem?}
+use Rattle.std.proofs.lemmas.Bool.{cases_lt}
 use Rattle.std.specs.Arc.{arc_value}
 use Rattle.atomic_table.proofs.Lists.{at_last, at_longer}
 use Rattle.blink_batch.specs.declared.Entry.{Entry}
@@ -22,6 +23,18 @@ use Rattle.blink_grow.specs.Sessions.{IsSessionOf, opening_of, places_of}
 use Rattle.blink_grow.specs.Rule.{SlotSeat, fresh_accounts, nothing}
 use Rattle.blink_grow.specs.Steps.{first_alone, without_first}
 use Rattle.blink_grow.proofs.Basics.{at_end, in_list, some_or, there_is}
+
+-- ---- a map that opens has 1 to 256 sessions
+
+pub some_sessions : (count : ℕ) → ¬ ((count ≡ 0) ⊎ (256 < count)) → 1 ≤ count
+some_sessions zero not_bad = absurd (not_bad (inl refl))
+some_sessions (suc count) not_bad = omega arith
+
+pub few_sessions : (count : ℕ) → ¬ ((count ≡ 0) ⊎ (256 < count)) → count ≤ 256
+few_sessions count not_bad = elim (cases_lt 256 count) [
+  | inl more ↦ absurd (not_bad (inr more))
+  | inr few ↦ few
+]
 
 -- ---- sessions are laid
 

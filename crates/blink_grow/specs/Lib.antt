@@ -3,7 +3,7 @@
 -- the operations that change a map
 pub use Rattle.blink_machine.specs.{IsUpdate}
 -- a map and its sessions
-pub use Rattle.blink_grow.specs.Sessions.{HasSameSlot, IsAnswered, IsSameBesideSeen, IsSameSession, IsSessionOf, made_by, opening_of, place_of, places_of, seen_by}
+pub use Rattle.blink_grow.specs.Sessions.{HasSameSlot, IsAnswered, IsSameBesideSeen, IsSameSession, IsSessionOf, is_fixed, made_by, opening_of, place_of, places_of, seen_by}
 -- a session that is held
 pub use Rattle.blink_grow.specs.Holding.{AnswersFrom, HasSamePlace, IsAnsweredHeld, IsHeldFrom, IsHeldOf, IsHeldOn, IsReleased, known_by, known_to, made_by_held, place_of_held, seen_by_held, stock_of_held}
 pub use Rattle.blink_grow.specs.Rule.{IsContinued}
@@ -16,7 +16,7 @@ pub use Rattle.blink_grow.specs.Opening.{AreFirstSessions, IsFirstAt}
 -- how a map closes
 pub use Rattle.blink_grow.specs.Closing.{IsClosedWith, IsListOf, IsUnclosed}
 -- why a map wasn't renewed
-pub use Rattle.blink_grow.specs.Renewing.{IsRefusal}
+pub use Rattle.blink_grow.specs.Renewing.{IsRefusal, IsRefusalOf}
 -- the first and the last entry of a range
 pub use Rattle.blink_map.specs.{IsFirstFrom, IsLastTo}
 -- ---- files that no crate above names

@@ -1,5 +1,5 @@
 -- A renewal of a growing map: the slots that its seat has taken, and the map that it opens.
-use Rattle.std.specs.Prelude.{◌≡◌, ◌⊎◌, ℕ, zero, suc, ◌+◌, ◌<◌, ◌≤◌, ◌^◌, Option, Some, None, List, [], ◌∷◌, length}
+use Rattle.std.specs.Prelude.{◌≡◌, ◌⊎◌, ℕ, zero, suc, ◌+◌, ◌<◌, ◌≤◌, ◌^◌, IsTrue, Option, Some, None, List, [], ◌∷◌, length}
 use mathlib.Core.Option.{some}
 use mathlib.Core.List.{IsPrefix}
 use lib.ListN.{get_elem?}
@@ -12,7 +12,7 @@ use Rattle.blink_live.specs.{after, made_at}
 use Rattle.blink_map.specs.declared.map.Map.{Map}
 use Rattle.blink_map.specs.{IsSameMember, IsSessionOf, made_by, opening_of as opening_of_map, place_of, places_of as places_of_map, seen_by}
 use Rattle.blink_grow.specs.declared.error.GrowError.{GrowError}
-use Rattle.blink_grow.specs.declared.error.GrowError.TheVariants.{Busy, OutOfMemory, TooLarge}
+use Rattle.blink_grow.specs.declared.error.GrowError.TheVariants.{Busy, Full, OutOfMemory, TooLarge}
 use Rattle.blink_grow.specs.declared.growing.GrowingMap.{GrowingMap}
 use Rattle.blink_grow.specs.declared.slots.Current.{Current}
 use Rattle.blink_grow.specs.declared.slots.Generation.{Generation}
@@ -20,11 +20,15 @@ use Rattle.blink_grow.specs.declared.slots.Known.{Known}
 use Rattle.blink_grow.specs.declared.slots.SlotView.{SlotView}
 use Rattle.blink_grow.specs.Laid.{AreOthersIn, IsFirstIn, slot_behind}
 use Rattle.blink_grow.specs.Rule.{Account, IsContinued, IsCurrentAt, IsGeneration, known_of}
-use Rattle.blink_grow.specs.Sessions.{opening_of, places_of}
+use Rattle.blink_grow.specs.Sessions.{is_fixed, opening_of, places_of}
 
--- why a map wasn't renewed
+-- why a map that grows wasn't renewed
 abbrev pub IsRefusal : GrowError → Type 0
 IsRefusal refusal = (refusal ≡ OutOfMemory) ⊎ ((refusal ≡ TooLarge) ⊎ (refusal ≡ Busy))
+
+-- the same of this map: a map whose room is fixed may be full, and no other
+abbrev pub IsRefusalOf : GrowingMap → GrowError → Type 0
+IsRefusalOf map refusal = IsRefusal refusal ⊎ ((refusal ≡ Full) × IsTrue (is_fixed map))
 
 -- ---- sessions of one map
 

@@ -1,5 +1,5 @@
 -- A growing map and its sessions, as contracts see them.
-use Rattle.std.specs.Prelude.{◌≡◌, ℕ, List, ◌++◌}
+use Rattle.std.specs.Prelude.{◌≡◌, ℕ, Bool, List, ◌++◌}
 use mathlib.Core.List.{IsPrefix}
 use Rattle.blink_batch.specs.declared.Answer.{Answer}
 use Rattle.blink_batch.specs.declared.Entry.{Entry}
@@ -19,6 +19,10 @@ opening_of map = map_of map.table.shared.key.index.value
 -- the number of places for sessions
 abbrev pub places_of : GrowingMap → ℕ
 places_of map = map.table.shared.table_id.slots
+
+-- whether the map keeps the room that it was opened with, and is never renewed
+abbrev pub is_fixed : GrowingMap → Bool
+is_fixed map = map.fixed
 
 -- ---- a session
 

@@ -2,7 +2,7 @@
 ghost use Rattle.std.specs.Prelude.{◌<◌, IfErr, IfOk, OnErr};
 ghost use Rattle.blink_batch.specs.{FitsWords};
 ghost use Rattle.blink_machine.specs.{IsUpdate};
-ghost use Rattle.blink_grow.specs.Renewing.{IsRefusal};
+ghost use Rattle.blink_grow.specs.Renewing.{IsRefusalOf};
 ghost use Rattle.blink_grow.specs.Sessions.{IsAnswered, IsSameBesideSeen, IsSessionOf, places_of};
 
 use crate::counts::counted_by;
@@ -24,8 +24,9 @@ impl GrowingMap {
     ///
     /// The call refuses with `OutOfMemory`, if memory was refused when the map was to be renewed; with `TooLarge`, if the entries leave
     /// too few of the 1,048,575 page numbers; and with `Busy`, if the map can't be renewed for now, since a session is held up in the
-    /// midst of a call, or if other sessions used up the room of eight maps meanwhile. Then it changes nothing, though the session may
-    /// have seen more, and may be called again.
+    /// midst of a call, or if other sessions used up the room of eight maps meanwhile. A map whose room is fixed isn't renewed: there the
+    /// call refuses with `Full`, where the session finds no room. Then it changes nothing, though the session may have seen more, and may
+    /// be called again.
     pub fn change<R: Wait>(
         &self,
         rt: &R,
@@ -37,7 +38,7 @@ impl GrowingMap {
         requires updates { IsUpdate op }
         requires fits { FitsWords op }
         ensures answered { IfOk result (IsAnswered self.now op session.old session.new) }
-        ensures refused { IfErr result IsRefusal }
+        ensures refused { IfErr result (IsRefusalOf self.now) }
         ensures unchanged { OnErr result (IsSameBesideSeen session.old session.new) }
     {
         let slot = session.slot;
@@ -66,7 +67,7 @@ impl GrowingMap {
         full: Option<u64>,
     ) -> Result<(), GrowError>
         requires in_range { slot < places_of self.now }
-        ensures refused { IfErr result IsRefusal }
+        ensures refused { IfErr result (IsRefusalOf self.now) }
     {
         match full {
             Some(number) => self.renew_once(rt, alloc, slot, Reason::Full(number)),

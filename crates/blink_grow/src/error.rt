@@ -17,4 +17,7 @@ pub enum GrowError {
     /// the map was being renewed.
     #[error("a session is held up in a call")]
     Busy,
+    /// The map's room is fixed, and a change found too little of it left, or the map was to be renewed.
+    #[error("full")]
+    Full,
 }

@@ -14,10 +14,15 @@ use std::sync::atomic::{AtomicBool, AtomicU64};
 /// packed, and another map is opened over them with more room. Changes wait meanwhile. Searches go on, and wait only while the sessions
 /// are gathered, before the entries are copied and after: that takes microseconds, unless a session is in a long call. One session is
 /// with the renewal until the next map is there, and its searches wait too: that of the thread which renews, or the first one.
+///
+/// A map that was opened with a fixed room (`open_fixed`) is never renewed, so no call waits for a copy. Where it is full, its changes are
+/// refused.
 #[derive(Drop)]
 pub struct GrowingMap {
     pub(crate) table: Table<Option<Current>, SlotView, Origin, RuleOfSlots, Global>,
     pub(crate) fan: u8,
+    // Whether the map keeps the room that it was opened with.
+    pub(crate) fixed: bool,
     // Whether somebody renews the map. Renewals are one after another by it, and changes wait for them. No proof needs it: a renewal
     // counts the changes, and copies again where one was made.
     pub(crate) renewing: AtomicBool,

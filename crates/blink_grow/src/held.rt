@@ -43,7 +43,8 @@ pub struct PendingHeld {
 pub enum StoppedHeld {
     /// It has begun, and waits.
     Waits(PendingHeld),
-    /// The session lacks the room that the operation may need in the current map. The map is to be renewed, once the session is released.
+    /// The session lacks the room that the operation may need in the current map. The map is to be renewed, once the session is released,
+    /// unless its room is fixed.
     Full(Held),
 }
 

@@ -36,7 +36,7 @@ mod waiting;
 mod worn;
 
 pub use blink_live::Scanned;
-pub use blink_map::Stock;
+pub use blink_map::{Room, Stock};
 pub use error::GrowError;
 pub use growing::{GrowingMap, Session, Unclosed};
 pub use held::{Held, PendingHeld, StoppedHeld};

@@ -1,20 +1,20 @@
 //! Opening a growing map.
-ghost use Rattle.std.specs.Prelude.{◌≡◌, ◌≤◌, ◌++◌, [], ◌∷◌, Some, All, IfOk, OnOk, length, replicate};
+ghost use Rattle.std.specs.Prelude.{◌≡◌, ◌≤◌, ◌++◌, [], ◌∷◌, Some, All, IfOk, IsFalse, IsTrue, OnOk, length, replicate};
 ghost use Rattle.std.specs.Arc.{arc_value};
 ghost use Rattle.blink_index.specs.{map_of};
 ghost use Rattle.blink_map.specs.{opening_of as opening_of_map, places_of as places_of_map};
 ghost use Rattle.blink_grow.specs.Laid.{AreFirst, AreLaid};
 ghost use Rattle.blink_grow.specs.Opening.{AreFirstSessions, dealer};
-ghost use Rattle.blink_grow.specs.Sessions.{IsSessionOf, opening_of, places_of};
+ghost use Rattle.blink_grow.specs.Sessions.{IsSessionOf, is_fixed, opening_of, places_of};
 
 use crate::error::GrowError;
 use crate::growing::{GrowingMap, Session};
-use crate::room::{numbers_over, room_over};
+use crate::room::room_over;
 use crate::slots::{Current, Origin, PartWithFirst, RuleOfSlots, SLOT_WORDS, SlotView};
 use crate::worn::had_at_first;
 use atomic_table::{Seat, Table};
 use blink_index::Index;
-use blink_map::{Map, MapError};
+use blink_map::{Map, MapError, Room};
 use blink_page::MAX_FAN;
 use std::alloc::{AllocError, Global};
 use std::snapshot::Snapshot;
@@ -33,6 +33,7 @@ impl GrowingMap {
         ensures places { IfOk result (λ opened. places_of opened.0 ≡ sessions) }
         ensures dealt { IfOk result (λ opened. AreFirstSessions opened.0 opened.1.items) }
         ensures its_own { IfOk result (λ opened. All (IsSessionOf opened.0) opened.1.items) }
+        ensures grows { IfOk result (λ opened. IsFalse (is_fixed opened.0)) }
     {
         match Index::new(alloc, MAX_FAN as u8) {
             Ok(index) => GrowingMap::open(alloc, &index, sessions),
@@ -54,15 +55,69 @@ impl GrowingMap {
         ensures places { IfOk result (λ opened. places_of opened.0 ≡ sessions) }
         ensures dealt { IfOk result (λ opened. AreFirstSessions opened.0 opened.1.items) }
         ensures its_own { IfOk result (λ opened. All (IsSessionOf opened.0) opened.1.items) }
+        ensures grows { IfOk result (λ opened. IsFalse (is_fixed opened.0)) }
     {
         if sessions == 0 || sessions > MAX_SESSIONS {
             return Err(GrowError::Sessions);
         }
-        let Some(room) = room_over(index.page_count(), sessions) else {
-            return Err(GrowError::TooLarge);
-        };
+        match room_over(index.page_count(), sessions) {
+            Some(room) => GrowingMap::open_in(alloc, index, room, false),
+            None => Err(GrowError::TooLarge),
+        }
+    }
+
+    /// Opens a map as `open` does, with this room for its first changes, and so many sessions. Where a change finds too little of it left,
+    /// the map is renewed, and has the room then that any growing map has of its entries.
+    ///
+    /// The call refuses with `Sessions`, if there are to be none or more than 256; with `TooLarge`, if the room's page numbers and the pages
+    /// of the index are more than 1,048,575; and with `OutOfMemory`, if memory was refused.
+    pub fn open_with_room(
+        alloc: Global,
+        index: &Index,
+        room: Room,
+    ) -> Result<(GrowingMap, Vec<Session>), GrowError>
+        ensures opened { IfOk result (λ opened. opening_of opened.0 ≡ map_of index.now) }
+        ensures places { IfOk result (λ opened. places_of opened.0 ≡ room.sessions) }
+        ensures dealt { IfOk result (λ opened. AreFirstSessions opened.0 opened.1.items) }
+        ensures its_own { IfOk result (λ opened. All (IsSessionOf opened.0) opened.1.items) }
+        ensures grows { IfOk result (λ opened. IsFalse (is_fixed opened.0)) }
+    {
+        GrowingMap::open_in(alloc, index, room, false)
+    }
+
+    /// Opens a map as `open_with_room` does, whose room stays fixed: the map is never renewed, so no call waits for a copy. Where a change
+    /// finds too little room left, it is refused with `Full`, and other calls go on.
+    pub fn open_fixed(
+        alloc: Global,
+        index: &Index,
+        room: Room,
+    ) -> Result<(GrowingMap, Vec<Session>), GrowError>
+        ensures opened { IfOk result (λ opened. opening_of opened.0 ≡ map_of index.now) }
+        ensures places { IfOk result (λ opened. places_of opened.0 ≡ room.sessions) }
+        ensures dealt { IfOk result (λ opened. AreFirstSessions opened.0 opened.1.items) }
+        ensures its_own { IfOk result (λ opened. All (IsSessionOf opened.0) opened.1.items) }
+        ensures fixed { IfOk result (λ opened. IsTrue (is_fixed opened.0)) }
+    {
+        GrowingMap::open_in(alloc, index, room, true)
+    }
+
+    /// Opens a map as `open_fixed` does, if its room is to be fixed, and as `open_with_room` otherwise.
+    pub fn open_in(
+        alloc: Global,
+        index: &Index,
+        room: Room,
+        fixed: bool,
+    ) -> Result<(GrowingMap, Vec<Session>), GrowError>
+        ensures opened { IfOk result (λ opened. opening_of opened.0 ≡ map_of index.now) }
+        ensures places { IfOk result (λ opened. places_of opened.0 ≡ room.sessions) }
+        ensures dealt { IfOk result (λ opened. AreFirstSessions opened.0 opened.1.items) }
+        ensures its_own { IfOk result (λ opened. All (IsSessionOf opened.0) opened.1.items) }
+        ensures room { IfOk result (λ opened. is_fixed opened.0 ≡ fixed) }
+    {
+        let numbers = u64::from(index.page_count()) + u64::from(room.pages);
         let (map, first) = match Map::open(alloc, index, room) {
             Ok(opened) => opened,
+            Err(MapError::Sessions) => return Err(GrowError::Sessions),
             Err(MapError::TooLarge) => return Err(GrowError::TooLarge),
             Err(_) => return Err(GrowError::OutOfMemory),
         };
@@ -72,7 +127,7 @@ impl GrowingMap {
         let Ok(slots) = lay(alloc, &map, first) else {
             return Err(GrowError::OutOfMemory);
         };
-        let (map, mut seat) = table_of(alloc, index, slots)?;
+        let (map, mut seat) = table_of(alloc, index, slots, numbers, fixed)?;
         let Ok(sessions) = map.deal(alloc, &mut seat) else {
             return Err(GrowError::OutOfMemory);
         };
@@ -98,11 +153,13 @@ impl GrowingMap {
     }
 }
 
-// The table over these slots, and the seat that has all sessions.
+// The table over these slots, and the seat that has all sessions. The map in them has so many page numbers in all.
 fn table_of(
     alloc: Global,
     index: &Index,
     slots: Vec<Option<Current>>,
+    numbers: u64,
+    fixed: bool,
 ) -> Result<(GrowingMap, Seat<Option<Current>, SlotView>), GrowError>
     requires some { 1 ≤ length slots.items }
     requires few { length slots.items ≤ 256 }
@@ -113,6 +170,7 @@ fn table_of(
     ensures its_own { IfOk result (λ opened. opened.1.table_id ≡ opened.0.table.shared.table_id) }
     ensures first { IfOk result
         (λ opened. opened.1.me ≡ (dealer (opening_of opened.0) (places_of opened.0) 0, [])) }
+    ensures room { IfOk result (λ opened. is_fixed opened.0 ≡ fixed) }
 {
     let count = slots.len();
     let Ok(words) = zeros(alloc, SLOT_WORDS * count) else {
@@ -122,7 +180,6 @@ fn table_of(
         index: Snapshot::of(index),
         slots: count as u64,
     };
-    let numbers = numbers_over(index.page_count(), count as u32);
     match Table::<Option<Current>, SlotView, Origin, RuleOfSlots, Global>::new(
         alloc, &words, slots, &origin,
     ) {
@@ -130,6 +187,7 @@ fn table_of(
             GrowingMap {
                 table,
                 fan: index.rest().store().fan(),
+                fixed,
                 renewing: AtomicBool::new(false),
                 gathering: AtomicBool::new(false),
                 had: AtomicU64::new(had_at_first(index.len(), count)),

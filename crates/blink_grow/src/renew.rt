@@ -1,9 +1,9 @@
 //! Renewing a growing map: all its sessions are gathered, and given back but for one of them, which copies the entries into the next map with
 //! more room. Then they are gathered again, and a session of the next map is put into each slot.
-ghost use Rattle.std.specs.Prelude.{◌<◌, IfErr, IfSome};
+ghost use Rattle.std.specs.Prelude.{◌≡◌, ◌<◌, IfErr, IfSome, IsErrOf, IsTrue, Err, Some};
 ghost use Rattle.blink_index.specs.{map_of};
-ghost use Rattle.blink_grow.specs.Renewing.{AreNext, IsCopied, IsRefusal};
-ghost use Rattle.blink_grow.specs.Sessions.{IsSessionOf, places_of};
+ghost use Rattle.blink_grow.specs.Renewing.{AreNext, IsCopied, IsRefusal, IsRefusalOf};
+ghost use Rattle.blink_grow.specs.Sessions.{IsSessionOf, is_fixed, places_of};
 
 use crate::copy::Begun;
 use crate::error::GrowError;
@@ -42,9 +42,11 @@ impl GrowingMap {
     ///
     /// The call refuses with `Busy`, if a session is held up in the midst of a call, so that a million looks didn't find it in its slot;
     /// with `TooLarge`, if the entries leave too few of the 1,048,575 page numbers; and with `OutOfMemory`, if memory was refused. Then
-    /// the map goes on with the room that it has left.
+    /// the map goes on with the room that it has left. A map whose room is fixed is never renewed: the call refuses with `Full`, and with
+    /// nothing else.
     pub fn renew<R: Wait>(&self, rt: &R, alloc: Global) -> Result<(), GrowError>
-        ensures refused { IfErr result IsRefusal }
+        ensures refused { IfErr result (IsRefusalOf self.now) }
+        ensures fixed { IsTrue (is_fixed self.now) → IsErrOf result GrowError.Full }
     {
         self.renew_once(rt, alloc, 0, Reason::Asked)
     }
@@ -56,9 +58,11 @@ impl GrowingMap {
     ///
     /// The call refuses with `Busy`, if a session was in a call, or held, at each look, or another thread was renewing the map at each
     /// look; with `TooLarge`, if the entries leave too few of the 1,048,575 page numbers; and with `OutOfMemory`, if memory was
-    /// refused. Then the map goes on with the room that it has left.
+    /// refused. Then the map goes on with the room that it has left. A map whose room is fixed is never renewed: the call refuses with
+    /// `Full`, and with nothing else.
     pub fn try_renew(&self, alloc: Global, full: Option<u64>, looks: u32) -> Result<(), GrowError>
-        ensures refused { IfErr result IsRefusal }
+        ensures refused { IfErr result (IsRefusalOf self.now) }
+        ensures fixed { IsTrue (is_fixed self.now) → IsErrOf result GrowError.Full }
     {
         self.try_renew_at(alloc, 0, full, looks)
     }
@@ -73,7 +77,8 @@ impl GrowingMap {
         looks: u32,
     ) -> Result<(), GrowError>
         requires its_own { IsSessionOf self.now session.now }
-        ensures refused { IfErr result IsRefusal }
+        ensures refused { IfErr result (IsRefusalOf self.now) }
+        ensures fixed { IsTrue (is_fixed self.now) → IsErrOf result GrowError.Full }
     {
         self.try_renew_at(alloc, session.slot, full, looks)
     }
@@ -86,7 +91,8 @@ impl GrowingMap {
         full: Option<u64>,
         looks: u32,
     ) -> Result<(), GrowError>
-        ensures refused { IfErr result IsRefusal }
+        ensures refused { IfErr result (IsRefusalOf self.now) }
+        ensures fixed { IsTrue (is_fixed self.now) → IsErrOf result GrowError.Full }
     {
         let copier = if place < self.table.slot_count() {
             place
@@ -104,7 +110,7 @@ impl GrowingMap {
         }
     }
 
-    // Renews the map by the session in this slot, unless another thread does so, or it needn't be renewed any more.
+    // Renews the map by the session in this slot, unless another thread does so, or it needn't be renewed any more; or its room is fixed.
     pub(crate) fn renew_once<R: Wait>(
         &self,
         rt: &R,
@@ -113,8 +119,12 @@ impl GrowingMap {
         reason: Reason,
     ) -> Result<(), GrowError>
         requires in_range { copier < places_of self.now }
-        ensures refused { IfErr result IsRefusal }
+        ensures refused { IfErr result (IsRefusalOf self.now) }
+        ensures fixed { IsTrue (is_fixed self.now) → IsErrOf result GrowError.Full }
     {
+        if self.fixed {
+            return Err(GrowError::Full);
+        }
         if self.renewing.swap(true, Ordering::SeqCst) {
             self.wait_for_renewal(rt);
             return Ok(());
@@ -122,7 +132,7 @@ impl GrowingMap {
         self.renew_alone(alloc, copier, reason, RENEWAL)
     }
 
-    // Renews the map, unless it needn't be renewed any more. `None`, if another thread renews it.
+    // Renews the map, unless it needn't be renewed any more, or its room is fixed. `None`, if another thread renews it.
     pub(crate) fn renew_unless_busy(
         &self,
         alloc: Global,
@@ -131,8 +141,12 @@ impl GrowingMap {
         looks: u32,
     ) -> Option<Result<(), GrowError>>
         requires in_range { copier < places_of self.now }
-        ensures refused { IfSome result (λ outcome. IfErr outcome IsRefusal) }
+        ensures refused { IfSome result (λ outcome. IfErr outcome (IsRefusalOf self.now)) }
+        ensures fixed { IsTrue (is_fixed self.now) → result ≡ Some (Err GrowError.Full) }
     {
+        if self.fixed {
+            return Some(Err(GrowError::Full));
+        }
         if self.renewing.swap(true, Ordering::SeqCst) {
             return None;
         }
@@ -160,7 +174,7 @@ impl GrowingMap {
         patience: Patience,
     ) -> Result<(), GrowError>
         requires in_range { copier < places_of self.now }
-        ensures refused { IfErr result IsRefusal }
+        ensures refused { IfErr result (IsRefusalOf self.now) }
     {
         for _ in 0..GRACE {
             hint::spin_loop();

@@ -29,7 +29,8 @@ impl GrowingMap {
     /// with 1,024 more for each session, and if the map uses more than twice the pages that so many need half full. Where keys come
     /// and go in no order, few leaves are emptied, so the map stays. A change does all this by itself. After `start` and `advance` the
     /// caller does it, once the session is released. The call waits for nobody. It looks `looks` times for each session that is in a call, or
-    /// held. Where the map can't be renewed for now, or needn't be, it stays as it is, and the count begins anew.
+    /// held. Where the map can't be renewed for now, or needn't be, it stays as it is, and the count begins anew. So it is where the room
+    /// is fixed.
     ///
     /// So a look from the front, as `first`, passes a bounded number of emptied leaves: after each count the map uses at most four times
     /// the pages that the entries left, and 1,024 for each session, would fill.

@@ -14,6 +14,8 @@ mod memory;
 #[cfg(test)]
 mod renewals;
 #[cfg(test)]
+mod room;
+#[cfg(test)]
 mod same;
 #[cfg(test)]
 mod shared;

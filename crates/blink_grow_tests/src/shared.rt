@@ -32,7 +32,17 @@ impl Single {
         alloc: Global,
         sessions: u32,
     ) -> Result<Single, GrowError> {
-        let (map, mut sessions) = match GrowingMap::new(alloc, sessions) {
+        Single::of(rt, GrowingMap::new(alloc, sessions))
+    }
+
+    // The last session of a map that was opened, of which the others do nothing.
+    pub(crate) fn of(
+        rt: &impl Abort,
+        opened: Result<(GrowingMap, Vec<Session>), GrowError>,
+    ) -> Result<Single, GrowError>
+        requires { IfOk opened (λ opened. All (IsSessionOf opened.0) opened.1.items) }
+    {
+        let (map, mut sessions) = match opened {
             Ok(opened) => opened,
             Err(refusal) => return Err(refusal),
         };

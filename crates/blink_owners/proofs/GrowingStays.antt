@@ -1,5 +1,5 @@
 -- What a session of a growing map knows goes on from call to call.
-use Rattle.std.proofs.Common.{◌≡◌, ◌∙◌, ◌||◌, Bool, IfSome, false, true, Option, Some, None, is_some, is_none, List, ◌++◌, append_assoc, append-nil, [], ap, inl, inr, refl, sym, subst}
+use Rattle.std.proofs.Common.{◌≡◌, ◌∙◌, ◌||◌, Bool, IfSome, IsTrue, false, true, Option, Some, None, is_some, is_none, List, ◌++◌, append_assoc, append-nil, [], ap, inl, inr, refl, sym, subst}
 use mathlib.Core.List.{IsPrefix}
 use Rattle.std.specs.Arc.{arc_value}
 use Rattle.std.specs.declared.alloc.Global.{Global}
@@ -15,7 +15,7 @@ use Rattle.blink_grow.specs.declared.growing.Session.{Session}
 use Rattle.blink_grow.specs.declared.held.Held.{Held}
 use Rattle.blink_grow.specs.declared.held.PendingHeld.{PendingHeld}
 use Rattle.blink_grow.specs.declared.slots.Known.{Known}
-use Rattle.blink_grow.specs.{AnswersFrom, HasSamePlace, HasSameSlot, IsAnsweredHeld, IsContinued, IsHeldOf, IsHeldOn, IsPendingOf, IsRefusal, IsSameBesideSeen, IsSameSession, IsSessionOf, held_of, known_by, known_to, opening_of, place_of_held}
+use Rattle.blink_grow.specs.{AnswersFrom, HasSamePlace, HasSameSlot, IsAnsweredHeld, IsContinued, IsHeldOf, IsHeldOn, IsPendingOf, IsRefusalOf, IsSameBesideSeen, IsSameSession, IsSessionOf, held_of, is_fixed, known_by, known_to, opening_of, place_of_held}
 use Rattle.blink_owners.specs.declared.grow_refusal.GrowRefusal.{GrowRefusal}
 use Rattle.blink_owners.specs.declared.grow_refusal.GrowRefusal.TheVariants as refused
 use Rattle.blink_owners.specs.declared.growing_session_owner.GrowingSessionOwner.{GrowingSessionOwner}
@@ -23,7 +23,7 @@ use Rattle.blink_owners.specs.declared.shared_growing.SharedGrowing.{SharedGrowi
 use Rattle.blink_owners.specs.GrowCodes.{refusal_of}
 use Rattle.blink_owners.specs.declared.raw.RawAnswer.{RawAnswer}
 use Rattle.blink_owners.specs.Raw.{raw_answer}
-use Rattle.blink_owners.specs.GrowingSessions.{Answers, HasAnswered, IsAtHand, IsAway, IsChangeRefusal, IsEmpty, IsGripped, IsOwnSession, IsRested, IsTakenOut, KnowsSame, SeesMore, StaysAtHand, in_growing, known_in, known_of, place_among, place_in}
+use Rattle.blink_owners.specs.GrowingSessions.{Answers, HasAnswered, IsAtHand, IsAway, IsChangeRefusal, IsEmpty, IsGripped, IsOwnSession, IsRested, IsShortage, IsTakenOut, KnowsSame, SeesMore, StaysAtHand, in_growing, known_in, known_of, place_among, place_in}
 
 pub prefix_through : {A : Type 0} (old mid new : List A) → IsPrefix old mid → IsPrefix mid new → IsPrefix old new
 prefix_through {A} old mid new one other = (one.0 ++ other.0, sym (append_assoc old one.0 other.0) ∙ (ap (λ (l : List A). l ++ other.0) one.1 ∙ other.1))
@@ -237,6 +237,10 @@ away_refuses op old new refusal away = elim away.why [
   | inr under_way ↦ subst (IsChangeRefusal op old new) (sym under_way.0) (inr (under_way.1, under_way.2))
 ]
 
+-- what the map lacked then it lacks now
+shortage_through : (old mid : GrowingSessionOwner) (refusal : GrowRefusal) → SeesMore old mid → IsShortage (in_growing mid) refusal → IsShortage (in_growing old) refusal
+shortage_through old mid refusal sees short = subst (λ (map : GrowingMap). IsShortage map refusal) sees.same.same_map short
+
 pub refused_through : (op : Op) (old mid new : GrowingSessionOwner) (refusal : GrowRefusal) → SeesMore old mid → IsChangeRefusal op mid new refusal → IsChangeRefusal op old new refusal
 refused_through op old mid new refused.UnderWay sees (inl busy) = inl (record {
   was = sees.at_hand.was;
@@ -247,24 +251,32 @@ refused_through op old mid new refused.UnderWay sees (inl busy) = inl (record {
   knows = continued_through (known_in old) (known_in mid) (known_in new) sees.knows busy.knows;
 })
 refused_through op old mid new refused.UnderWay sees (inr under_way) = absurd (cc (sees.at_hand.is, under_way.0))
-refused_through op old mid new refused.OutOfMemory sees why = (why.0, sees_through old mid new sees why.1)
-refused_through op old mid new refused.TooLarge sees why = (why.0, sees_through old mid new sees why.1)
-refused_through op old mid new refused.Sessions sees why = (why.0, sees_through old mid new sees why.1)
-refused_through op old mid new refused.NoSession sees why = (why.0, sees_through old mid new sees why.1)
-refused_through op old mid new refused.Busy sees why = (why.0, sees_through old mid new sees why.1)
-refused_through op old mid new refused.RowsBusy sees why = (why.0, sees_through old mid new sees why.1)
-refused_through op old mid new refused.Missing sees why = (why.0, sees_through old mid new sees why.1)
-refused_through op old mid new refused.Idle sees why = (why.0, sees_through old mid new sees why.1)
-refused_through op old mid new refused.Closed sees why = (why.0, sees_through old mid new sees why.1)
+refused_through op old mid new refused.OutOfMemory sees why = (shortage_through old mid refused.OutOfMemory sees why.0, sees_through old mid new sees why.1)
+refused_through op old mid new refused.TooLarge sees why = (shortage_through old mid refused.TooLarge sees why.0, sees_through old mid new sees why.1)
+refused_through op old mid new refused.Sessions sees why = (shortage_through old mid refused.Sessions sees why.0, sees_through old mid new sees why.1)
+refused_through op old mid new refused.NoSession sees why = (shortage_through old mid refused.NoSession sees why.0, sees_through old mid new sees why.1)
+refused_through op old mid new refused.Busy sees why = (shortage_through old mid refused.Busy sees why.0, sees_through old mid new sees why.1)
+refused_through op old mid new refused.Full sees why = (shortage_through old mid refused.Full sees why.0, sees_through old mid new sees why.1)
+refused_through op old mid new refused.RowsBusy sees why = (shortage_through old mid refused.RowsBusy sees why.0, sees_through old mid new sees why.1)
+refused_through op old mid new refused.Missing sees why = (shortage_through old mid refused.Missing sees why.0, sees_through old mid new sees why.1)
+refused_through op old mid new refused.Idle sees why = (shortage_through old mid refused.Idle sees why.0, sees_through old mid new sees why.1)
+refused_through op old mid new refused.Closed sees why = (shortage_through old mid refused.Closed sees why.0, sees_through old mid new sees why.1)
 
 -- the map couldn't be renewed
-pub not_renewed : (op : Op) (old new : GrowingSessionOwner) (refusal : GrowError) → IsRefusal refusal → SeesMore old new → IsChangeRefusal op old new (refusal_of refusal)
+pub not_renewed : (op : Op) (old new : GrowingSessionOwner) (refusal : GrowError) → IsRefusalOf (in_growing new) refusal → SeesMore old new → IsChangeRefusal op old new (refusal_of refusal)
 not_renewed op old new grow.OutOfMemory is sees = (inl refl, sees)
 not_renewed op old new grow.TooLarge is sees = (inr (inl refl), sees)
 not_renewed op old new grow.Busy is sees = (inr (inr (inl refl)), sees)
-not_renewed op old new grow.Sessions (inl is) sees = absurd (cc is)
-not_renewed op old new grow.Sessions (inr (inl is)) sees = absurd (cc is)
-not_renewed op old new grow.Sessions (inr (inr is)) sees = absurd (cc is)
+not_renewed op old new grow.Full (inl (inl is)) sees = absurd (cc is)
+not_renewed op old new grow.Full (inl (inr (inl is))) sees = absurd (cc is)
+not_renewed op old new grow.Full (inl (inr (inr is))) sees = absurd (cc is)
+not_renewed op old new grow.Full (inr full) sees =
+    let fixed = subst (λ (map : GrowingMap). IsTrue (is_fixed map)) sees.same.same_map full.1 in
+    (inr (inr (inr (inr (refl, fixed)))), sees)
+not_renewed op old new grow.Sessions (inl (inl is)) sees = absurd (cc is)
+not_renewed op old new grow.Sessions (inl (inr (inl is))) sees = absurd (cc is)
+not_renewed op old new grow.Sessions (inl (inr (inr is))) sees = absurd (cc is)
+not_renewed op old new grow.Sessions (inr full) sees = absurd (cc full.0)
 
 -- what a change makes of its renewals
 pub ruleset renewals = (answers_through, refused_through, not_renewed, sees_through, sees_itself)

@@ -3,13 +3,14 @@ use Rattle.std.specs.Prelude.{ℕ}
 use Rattle.blink_grow.specs.declared.error.GrowError.{GrowError}
 use Rattle.blink_grow.specs.declared.error.GrowError.TheVariants as grow
 use Rattle.blink_owners.specs.declared.grow_refusal.GrowRefusal.{GrowRefusal}
-use Rattle.blink_owners.specs.declared.grow_refusal.GrowRefusal.TheVariants.{OutOfMemory, TooLarge, Sessions, NoSession, Busy, RowsBusy, Missing, UnderWay, Idle, Closed}
+use Rattle.blink_owners.specs.declared.grow_refusal.GrowRefusal.TheVariants.{OutOfMemory, TooLarge, Sessions, NoSession, Busy, Full, RowsBusy, Missing, UnderWay, Idle, Closed}
 
 abbrev pub refusal_of : GrowError → GrowRefusal
 refusal_of grow.OutOfMemory = OutOfMemory
 refusal_of grow.TooLarge = TooLarge
 refusal_of grow.Sessions = Sessions
 refusal_of grow.Busy = Busy
+refusal_of grow.Full = Full
 
 abbrev pub code_of : GrowRefusal → ℕ
 code_of OutOfMemory = 41
@@ -17,6 +18,7 @@ code_of TooLarge = 101
 code_of Sessions = 102
 code_of NoSession = 103
 code_of Busy = 109
+code_of Full = 105
 code_of RowsBusy = 107
 code_of Missing = 106
 code_of UnderWay = 90

@@ -1,10 +1,10 @@
 -- A growing map behind a handle: what the calls make of it, and why they are refused.
-use Rattle.std.specs.Prelude.{◌≡◌, ◌⊎◌, ℕ, List, All, Some, ⊤}
+use Rattle.std.specs.Prelude.{◌≡◌, ◌⊎◌, ℕ, List, All, IsTrue, Some, ⊤}
 use Rattle.std.specs.Arc.{arc_value}
 use Rattle.blink_batch.specs.declared.Entry.{Entry}
 use Rattle.blink_grow.specs.declared.growing.GrowingMap.{GrowingMap}
 use Rattle.blink_grow.specs.declared.growing.Session.{Session}
-use Rattle.blink_grow.specs.{IsClosedWith, IsSessionOf, opening_of, places_of}
+use Rattle.blink_grow.specs.{IsClosedWith, IsSessionOf, is_fixed, opening_of, places_of}
 use Rattle.blink_owners.specs.declared.grow_refusal.GrowRefusal.{GrowRefusal}
 use Rattle.blink_owners.specs.declared.grow_refusal.GrowRefusal.TheVariants as refused
 use Rattle.blink_owners.specs.declared.growing_owner.GrowingOwner.{GrowingOwner}
@@ -65,8 +65,15 @@ IsJoinFault refusal = (refusal ≡ refused.OutOfMemory) ⊎ (refusal ≡ refused
 
 -- ---- renewing and closing
 
-abbrev pub IsRenewFault : GrowRefusal → Type 0
-IsRenewFault refusal = (refusal ≡ refused.OutOfMemory) ⊎ (refusal ≡ refused.TooLarge) ⊎ (refusal ≡ refused.Busy) ⊎ (refusal ≡ refused.Closed)
+-- the map is open, and its room is fixed
+abbrev pub IsOpenFixed : GrowingState → Type 0
+IsOpenFixed (Open shared) = IsTrue (is_fixed (arc_value shared).map)
+IsOpenFixed held = ⊥
+
+-- why a map isn't renewed: it is full only where its room is fixed
+abbrev pub IsRenewFault : GrowingState → GrowRefusal → Type 0
+IsRenewFault held refusal =
+    (refusal ≡ refused.OutOfMemory) ⊎ (refusal ≡ refused.TooLarge) ⊎ (refusal ≡ refused.Busy) ⊎ (refusal ≡ refused.Closed) ⊎ ((refusal ≡ refused.Full) × IsOpenFixed held)
 
 -- the entries are the map's opening ones after one list of changes, which goes on from all that some sessions of the map had seen,
 -- and has exactly the changes that were made at their places

@@ -1,6 +1,6 @@
 -- A session of a growing map behind a handle: what the calls make of it, and why they are refused. What a session has seen and made is
 -- what it knows (`Known`), whether it is free, held, or has an operation under way.
-use Rattle.std.specs.Prelude.{◌≡◌, ◌⊎◌, ◌||◌, ◌&&◌, ℕ, false, Option, Some, None, IfSome, IsNone, IsSome, List, [], is_none, is_some}
+use Rattle.std.specs.Prelude.{◌≡◌, ◌⊎◌, ◌||◌, ◌&&◌, ℕ, false, IsTrue, Option, Some, None, IfSome, IsNone, IsSome, List, [], is_none, is_some}
 use Rattle.std.specs.Arc.{arc_value}
 use Rattle.blink_batch.specs.declared.Answer.{Answer}
 use Rattle.blink_batch.specs.declared.Entry.{Entry}
@@ -12,7 +12,7 @@ use Rattle.blink_grow.specs.declared.held.Held.{Held}
 use Rattle.blink_grow.specs.declared.growing.Session.{Session}
 use Rattle.blink_grow.specs.declared.held.PendingHeld.{PendingHeld}
 use Rattle.blink_grow.specs.declared.slots.Known.{Known}
-use Rattle.blink_grow.specs.{AnswersFrom, IsContinued, IsHeldOf, IsPendingOf, IsSessionOf, held_of, known_by, known_to, op_of, opening_of, place_of, place_of_held}
+use Rattle.blink_grow.specs.{AnswersFrom, IsContinued, IsHeldOf, IsPendingOf, IsSessionOf, held_of, is_fixed, known_by, known_to, op_of, opening_of, place_of, place_of_held}
 use Rattle.blink_owners.specs.declared.raw.RawAnswer.{RawAnswer}
 use Rattle.blink_owners.specs.declared.raw.RawScanned.{RawScanned}
 use Rattle.blink_owners.specs.declared.raw.RawTaken.{RawTaken}
@@ -171,15 +171,16 @@ pub record IsBusyWith (op : Op) (old new : GrowingSessionOwner) : Type 0 where
   pub same : IsOfSame old new
   pub knows : IsContinued (known_in old) (known_in new)
 
--- why the operation isn't made, if it hasn't begun
-abbrev pub IsShortage : GrowRefusal → Type 0
-IsShortage refusal = (refusal ≡ refused.OutOfMemory) ⊎ (refusal ≡ refused.TooLarge) ⊎ (refusal ≡ refused.Busy) ⊎ (refusal ≡ refused.RowsBusy)
+-- why the operation isn't made, if it hasn't begun: the map is full only where its room is fixed
+abbrev pub IsShortage : GrowingMap → GrowRefusal → Type 0
+IsShortage map refusal =
+    (refusal ≡ refused.OutOfMemory) ⊎ (refusal ≡ refused.TooLarge) ⊎ (refusal ≡ refused.Busy) ⊎ (refusal ≡ refused.RowsBusy) ⊎ ((refusal ≡ refused.Full) × IsTrue (is_fixed map))
 
 -- why the operation hasn't ended: it goes on at the next call, or another one was under way, and then nothing changes; or it isn't made,
 -- and the session may have seen more
 abbrev pub IsChangeRefusal : Op → GrowingSessionOwner → GrowingSessionOwner → GrowRefusal → Type 0
 IsChangeRefusal op old new refused.UnderWay = IsBusyWith op old new ⊎ (IsUnderWay old × (new ≡ old))
-IsChangeRefusal op old new refusal = IsShortage refusal × SeesMore old new
+IsChangeRefusal op old new refusal = IsShortage (in_growing old) refusal × SeesMore old new
 
 -- the same of one map: or this is full
 abbrev pub IsNotMade : Op → GrowingSessionOwner → GrowingSessionOwner → NotMade → Type 0

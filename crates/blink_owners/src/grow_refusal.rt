@@ -19,6 +19,8 @@ pub enum GrowRefusal {
     NoSession,
     /// The map is being renewed; or it can't be, since a session is held or in a call.
     Busy,
+    /// The map's room is fixed, and a change found too little of it left, or the map was to be renewed.
+    Full,
     /// The session has enough rows in all, but some are on their way back.
     RowsBusy,
     /// The handle of a session, or another one of the map, isn't freed.
@@ -41,6 +43,7 @@ impl GrowRefusal {
             GrowError::TooLarge => GrowRefusal::TooLarge,
             GrowError::Sessions => GrowRefusal::Sessions,
             GrowError::Busy => GrowRefusal::Busy,
+            GrowError::Full => GrowRefusal::Full,
         }
     }
 
@@ -54,6 +57,7 @@ impl GrowRefusal {
             GrowRefusal::Sessions => 102,
             GrowRefusal::NoSession => 103,
             GrowRefusal::Busy => 109,
+            GrowRefusal::Full => 105,
             GrowRefusal::RowsBusy => 107,
             GrowRefusal::Missing => 106,
             GrowRefusal::UnderWay => 90,

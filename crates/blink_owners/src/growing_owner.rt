@@ -1,15 +1,15 @@
 //! What the box of a growing map's handle holds: an owner of the map, or what a close has left of it.
-ghost use Rattle.std.specs.Prelude.{◌≡◌, ◌↔◌, All, IfErr, IfOk, IsErrOf, OnErr};
+ghost use Rattle.std.specs.Prelude.{◌≡◌, ◌↔◌, All, IfErr, IfOk, IsErrOf, IsFalse, OnErr};
 ghost use Rattle.std.specs.Arc.{arc_value};
 ghost use Rattle.blink_index.specs.{map_of};
-ghost use Rattle.blink_grow.specs.{IsSessionOf};
-ghost use Rattle.blink_owners.specs.Growing.{CanClose, IsClosedGrowing, IsCloseFault, IsEndFault, IsJoinFault, IsNewGrowing, IsOpenFault, IsOwnGrowing, IsOwnerOfSame, IsRenewFault, IsShareFault, Joins, growing_in};
+ghost use Rattle.blink_grow.specs.{IsSessionOf, is_fixed};
+ghost use Rattle.blink_owners.specs.Growing.{CanClose, IsClosedGrowing, IsCloseFault, IsEndFault, IsJoinFault, IsNewGrowing, IsOpenFault, IsOpenFixed, IsOwnGrowing, IsOwnerOfSame, IsRenewFault, IsShareFault, Joins, growing_in};
 ghost use Rattle.blink_owners.specs.GrowingSessions.{IsEmpty, IsOwnSession, in_growing};
 
 use crate::grow_refusal::GrowRefusal;
 use crate::growing_session_owner::GrowingSessionOwner;
 use crate::shared_growing::{GrowingState, SharedGrowing};
-use blink_grow::{GrowError, GrowingMap, Session, Unclosed};
+use blink_grow::{GrowError, GrowingMap, Room, Session, Unclosed};
 use blink_index::Index;
 use blink_page::MIN_FAN;
 use std::alloc::{AllocError, Global};
@@ -35,6 +35,7 @@ impl GrowingOwner {
     ) -> Result<Box<GrowingOwner>, GrowRefusal>
         ensures opened { IfOk result (λ map. IsNewGrowing (map_of index.now) sessions map.value) }
         ensures its_own { IfOk result (λ map. IsOwnGrowing map.value) }
+        ensures grows { IfOk result (λ map. IsFalse (is_fixed (growing_in map.value))) }
         ensures refused { IfErr result IsOpenFault }
     {
         match GrowingMap::open(alloc, index, sessions) {
@@ -42,9 +43,28 @@ impl GrowingOwner {
                 Ok(owner) => Ok(owner),
                 Err(_) => Err(GrowRefusal::OutOfMemory),
             },
-            Err(GrowError::Sessions) => Err(GrowRefusal::Sessions),
-            Err(GrowError::TooLarge) => Err(GrowRefusal::TooLarge),
-            Err(_) => Err(GrowRefusal::OutOfMemory),
+            Err(refusal) => Err(open_fault(refusal)),
+        }
+    }
+
+    /// Opens a growing map over the index, in a box, with this room, which may be fixed. Its sessions rest.
+    pub fn open_with_room(
+        alloc: Global,
+        index: &Index,
+        room: Room,
+        fixed: bool,
+    ) -> Result<Box<GrowingOwner>, GrowRefusal>
+        ensures opened { IfOk result (λ map. IsNewGrowing (map_of index.now) room.sessions map.value) }
+        ensures its_own { IfOk result (λ map. IsOwnGrowing map.value) }
+        ensures room { IfOk result (λ map. is_fixed (growing_in map.value) ≡ fixed) }
+        ensures refused { IfErr result IsOpenFault }
+    {
+        match GrowingMap::open_in(alloc, index, room, fixed) {
+            Ok((map, sessions)) => match GrowingOwner::boxed(alloc, map, sessions) {
+                Ok(owner) => Ok(owner),
+                Err(_) => Err(GrowRefusal::OutOfMemory),
+            },
+            Err(refusal) => Err(open_fault(refusal)),
         }
     }
 
@@ -122,9 +142,10 @@ impl GrowingOwner {
     }
 
     /// Renews the map, as `GrowingMap::try_renew` of `blink_grow` does. Where some session rests, the entries are copied by it, so no search
-    /// waits for the copy.
+    /// waits for the copy. A map whose room is fixed is never renewed.
     pub fn renew(&self, alloc: Global, looks: u32) -> Result<(), GrowRefusal>
-        ensures refused { IfErr result IsRenewFault }
+        ensures refused { IfErr result (IsRenewFault self.now.state) }
+        ensures fixed { IsOpenFixed self.now.state → IsErrOf result GrowRefusal.Full }
     {
         let GrowingState::Open(shared) = &self.state else {
             return Err(GrowRefusal::Closed);
@@ -218,6 +239,17 @@ impl GrowingOwner {
                 Err(GrowRefusal::of(refusal))
             }
         }
+    }
+}
+
+// Why a map isn't opened.
+fn open_fault(refusal: GrowError) -> GrowRefusal
+    ensures { IsOpenFault result }
+{
+    match refusal {
+        GrowError::Sessions => GrowRefusal::Sessions,
+        GrowError::TooLarge => GrowRefusal::TooLarge,
+        _ => GrowRefusal::OutOfMemory,
     }
 }
 

@@ -1,7 +1,7 @@
 //! What the box of the handle of a growing map's session holds: an owner of the map, and the session or its operation.
 ghost use Rattle.std.specs.Prelude.{◌≡◌, IfErr, IfOk, OnErr, OnOk};
 ghost use Rattle.blink_batch.specs.{FitsWords};
-ghost use Rattle.blink_grow.specs.{IsHeldOf, IsPendingOf, IsRefusal, IsUpdate};
+ghost use Rattle.blink_grow.specs.{IsHeldOf, IsPendingOf, IsRefusalOf, IsUpdate};
 ghost use Rattle.blink_owners.specs.GrowingSessions.{Answers, EndsFrom, Finds, IsAdvanceRefusal, IsAtHand, IsAway, IsChangeRefusal, IsEmpty, IsGripped, IsNotMade, IsOwnSession, IsRested, IsTakeRefusal, IsTakenOut, KnowsSame, SeesMore, Scans, ScansBack, Takes, in_growing};
 
 use crate::grow_refusal::GrowRefusal;
@@ -164,7 +164,8 @@ impl GrowingSessionOwner {
     }
 
     /// Begins an operation that changes the map, and takes its steps (`GrowingMap::start` of `blink_grow`). Where the map is full, the
-    /// call renews it, and begins again. Where a removal has left many empty leaves, it renews the map too, unless it can't for now.
+    /// call renews it, and begins again, unless its room is fixed. Where a removal has left many empty leaves, it renews the map too, unless
+    /// it can't for now.
     pub fn change(
         &mut self,
         alloc: Global,
@@ -224,7 +225,7 @@ impl GrowingSessionOwner {
     // Renews the map of this number, which was found full, by this session: no search of another one waits for the copy.
     fn renew_full(&self, alloc: Global, number: u64, looks: u32) -> Result<(), GrowError>
         requires its_own { IsOwnSession self.now }
-        ensures refused { IfErr result IsRefusal }
+        ensures refused { IfErr result (IsRefusalOf (in_growing self.now)) }
     {
         let map = &self.shared.map;
         match &self.free {

@@ -35,7 +35,8 @@ pub enum Error {
     /// Each place for a session is taken.
     NoSession,
     /// The session has too few rows or page numbers in all for the change, and the map's pool too. [`Map`](crate::Map#a-map-that-is-full) says
-    /// what goes on then, and how a program opens a larger map.
+    /// what goes on then, and how a program opens a larger map. Of growing maps only one whose room is [fixed](crate::GrowingMap::open_fixed)
+    /// is full, and a renewal of it is refused so too.
     Full,
     /// The session has enough rows and page numbers in all for the change, but some rows are on their way back. The same change may be
     /// let through later.

@@ -5,15 +5,16 @@ use crate::operation::Answer;
 use crate::range::{snapshot, LiveRange};
 use crate::sys::{self, Code, Handle, RawAnswer, RawEntry, RawScanned, RawTaken};
 use crate::waiting::{MOST_TRIES, TRIES};
-use crate::{Error, Index};
+use crate::{Error, Index, Room};
 use std::fmt;
 use std::ops::{Bound, Deref, DerefMut, RangeBounds};
 use std::sync::{Mutex, MutexGuard, PoisonError};
 use std::thread;
 
-/// A map that grows, which threads read and change together at any key. Nobody tells it how much room it is to have: where a change finds
-/// none, it renews the map, which copies the entries into another one with more room. Searches go on meanwhile, and changes wait. A renewal
-/// takes memory for both maps.
+/// A map that grows, which threads read and change together at any key. Nobody has to tell it how much room it is to have: where a change
+/// finds none, it renews the map, which copies the entries into another one with more room. Searches go on meanwhile, and changes wait. A
+/// renewal takes memory for both maps. A map that was opened with a [fixed room](GrowingMap::open_fixed) is never renewed, so no call waits
+/// for a copy.
 ///
 /// A thread changes it by a [`GrowingSession`], which has a share of the map. So a session may stand in a struct, or in a thread that
 /// outlives the function.
@@ -60,6 +61,75 @@ impl GrowingMap {
         Ok(GrowingMap { handle: Mutex::new(handle) })
     }
 
+    /// Opens an empty map as [`GrowingMap::new`] does, with [a room](Room::for_insertions) for so many insertions of absent keys by so many
+    /// sessions. They are made before the map is found full; then it grows.
+    ///
+    /// ```
+    /// use blink::GrowingMap;
+    ///
+    /// let map = GrowingMap::with_capacity(1_000, 1)?;
+    /// let mut session = map.session()?;
+    /// for key in 0..10_000 {
+    ///     session.insert(key, key)?;
+    /// }
+    /// drop(session);
+    /// assert_eq!(map.close()?.len(), 10_000);
+    /// # Ok::<(), blink::Error>(())
+    /// ```
+    pub fn with_capacity(insertions: u32, sessions: u32) -> Result<GrowingMap, Error> {
+        let empty = Index::new(32)?;
+        GrowingMap::open_with_room(&empty, Room::for_insertions(&empty, insertions, sessions))
+    }
+
+    /// Opens a map over the entries of an index as [`GrowingMap::open`] does, with this room for the first changes. Where a change finds too
+    /// little of it left, the map is renewed, and has the room then that any growing map has of its entries. It is refused with
+    /// [`Error::BadSessions`]; and with [`Error::TooLarge`], if the room's page numbers and the pages of the index are more than 1,048,575.
+    ///
+    /// ```
+    /// use blink::{GrowingMap, Index, Room};
+    ///
+    /// let index = Index::from_entries(8, [(1, 10), (3, 30), (5, 50)])?;
+    /// let map = GrowingMap::open_with_room(&index, Room::for_insertions(&index, 1_000, 2))?;
+    /// assert_eq!(map.session()?.get(3), Some(30));
+    /// # Ok::<(), blink::Error>(())
+    /// ```
+    pub fn open_with_room(index: &Index, room: Room) -> Result<GrowingMap, Error> {
+        GrowingMap::open_in(index, room, false)
+    }
+
+    /// Opens a map as [`GrowingMap::open_with_room`] does, whose room stays fixed. It is never renewed, so no call waits for a copy. A change
+    /// that finds too little room left is refused with [`Error::Full`], an insertion only if its key is absent;
+    /// [what a full map takes](crate::Map#a-map-that-is-full) goes on.
+    ///
+    /// ```
+    /// use blink::{Error, GrowingMap, Index, Room};
+    ///
+    /// let index = Index::new(32)?;
+    /// let map = GrowingMap::open_fixed(&index, Room { pages: 100, rows: 500, sessions: 1 })?;
+    /// let mut session = map.session()?;
+    /// let mut count = 0;
+    /// while session.insert(count, 0) != Err(Error::Full) {
+    ///     count += 1;
+    /// }
+    /// assert_eq!(map.renew(1), Err(Error::Full));
+    /// assert_eq!(session.put(7, 70)?, Some(0));
+    /// drop(session);
+    /// assert_eq!(map.close()?.len() as u64, count);
+    /// # Ok::<(), Error>(())
+    /// ```
+    pub fn open_fixed(index: &Index, room: Room) -> Result<GrowingMap, Error> {
+        GrowingMap::open_in(index, room, true)
+    }
+
+    fn open_in(index: &Index, room: Room, fixed: bool) -> Result<GrowingMap, Error> {
+        let Room { pages, rows, sessions } = room;
+        let mut handle = Handle::EMPTY;
+        // SAFETY: as in `open`.
+        let code = unsafe { sys::blink_growing_open_with_room(index.handle(), pages, rows, sessions, fixed, &mut handle) };
+        Error::check(code)?;
+        Ok(GrowingMap { handle: Mutex::new(handle) })
+    }
+
     /// Joins the map. The session has a place until it is dropped. It is refused with [`Error::NoSession`], if each place is taken.
     pub fn session(&self) -> Result<GrowingSession, Error> {
         let mut handle = Handle::EMPTY;
@@ -73,7 +143,8 @@ impl GrowingMap {
     /// whose searches wait meanwhile.
     ///
     /// It is refused with [`Error::Renewing`], if one was at each look, or if another thread was renewing the map; with
-    /// [`Error::TooLarge`]; and with [`Error::OutOfMemory`]. Then the map goes on with the room that it has left.
+    /// [`Error::TooLarge`]; and with [`Error::OutOfMemory`]. Then the map goes on with the room that it has left. If the map's room is fixed, it
+    /// is refused with [`Error::Full`], and with nothing else but [`Error::OutOfMemory`].
     ///
     /// ```
     /// use blink::{Error, GrowingMap};
@@ -163,10 +234,10 @@ impl std::error::Error for UnclosedGrowing {}
 /// can be taken again.
 ///
 /// Its calls are those of [`Session`](crate::Session), and promise the same through all renewals; but it has no `tell`, no `reserve`, and no
-/// operations by steps. None is refused with [`Error::Full`]. A change waits while the map is renewed, and a search only while the renewal
-/// gathers the sessions, or if [`GrowingMap::renew`] has taken this one for its copy. A change waits also for a page that another session has
-/// just then, and a change that finds the map full waits while another session is [held](GrowingSession::hold), so that the map can't be
-/// renewed.
+/// operations by steps. None is refused with [`Error::Full`], unless the map's room is [fixed](GrowingMap::open_fixed). A change waits while the
+/// map is renewed, and a search only while the renewal gathers the sessions, or if [`GrowingMap::renew`] has taken this one for its copy. A
+/// change waits also for a page that another session has just then, and a change that finds the map full waits while another session is
+/// [held](GrowingSession::hold), so that the map can't be renewed.
 pub struct GrowingSession {
     handle: Handle,
 }
@@ -253,8 +324,9 @@ impl GrowingSession {
 
     /// Maps a key to a pointer, unless the key is there: [`Answer::Inserted`] or [`Answer::Exists`].
     ///
-    /// It is refused, as each change is, with [`Error::OutOfMemory`], if memory was refused when the map was to be renewed; and with
-    /// [`Error::TooLarge`], if the entries leave too few of the 1,048,575 page numbers. Then it has changed nothing.
+    /// It is refused, as each change is, with [`Error::OutOfMemory`], if memory was refused when the map was to be renewed; with
+    /// [`Error::TooLarge`], if the entries leave too few of the 1,048,575 page numbers; and with [`Error::Full`], if the map's room is fixed,
+    /// and too little of it is left; an insertion only if its key is absent. Then it has changed nothing.
     pub fn insert(&mut self, key: u64, pointer: u64) -> Result<Answer, Error> {
         // SAFETY: as in `get`.
         self.ended(|handle, tries, answer| unsafe { sys::blink_growing_session_insert(handle, key, pointer, tries, answer) })

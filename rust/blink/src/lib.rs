@@ -24,7 +24,8 @@
 //! - [`Index`] is a map from 64-bit keys to 64-bit record pointers, for one thread at a time. A record pointer is any number of 64 bits.
 //! - [`Reader`] reads an index that other threads read at the same time, each by a reader of its own.
 //! - [`Map`] shares the entries of an index among threads. Any of them changes any key, each by a [`Session`].
-//! - [`GrowingMap`] does the same and has no room to be told: it grows. Its sessions are [`GrowingSession`]s.
+//! - [`GrowingMap`] does the same and has no room to be told: it grows. Its sessions are [`GrowingSession`]s. Who wants no pause of changes
+//!   opens it with a [fixed room](GrowingMap::open_fixed).
 //! - [`Table`] shares them too, and each key has an owner: a [`Pass`] has keys of its own, inserts, deletes and replaces these, and
 //!   looks at all.
 //! - [`Guards`] tell when an object may be freed whose pointer was taken out of a map.

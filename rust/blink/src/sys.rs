@@ -371,6 +371,14 @@ extern "C" {
     pub(crate) fn blink_session_free(session: Handle);
 
     pub(crate) fn blink_growing_open(index: *mut Handle, sessions: u32, out: *mut Handle) -> Code;
+    pub(crate) fn blink_growing_open_with_room(
+        index: *mut Handle,
+        pages: u32,
+        rows: u32,
+        sessions: u32,
+        fixed: bool,
+        out: *mut Handle,
+    ) -> Code;
     pub(crate) fn blink_growing_share(map: *mut Handle, out: *mut Handle) -> Code;
     pub(crate) fn blink_growing_join(map: *mut Handle, out: *mut Handle) -> Code;
     pub(crate) fn blink_growing_renew(map: *mut Handle, looks: u32) -> Code;

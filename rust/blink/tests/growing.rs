@@ -1,6 +1,6 @@
 //! The growing map: its calls, growth by threads, what becomes of each key while it is renewed, queues, and as many sessions as it has.
 
-use blink::{Answer, Error, GrowingMap, GrowingSession, Index};
+use blink::{Answer, Error, GrowingMap, GrowingSession, Index, Room};
 use std::collections::BTreeMap;
 use std::sync::atomic::{AtomicBool, Ordering};
 use std::thread;
@@ -48,6 +48,88 @@ fn a_map_has_1_to_256_sessions() {
     assert_eq!(GrowingMap::new(0).unwrap_err(), Error::BadSessions);
     assert_eq!(GrowingMap::new(257).unwrap_err(), Error::BadSessions);
     assert!(GrowingMap::new(256).is_ok());
+}
+
+// Its leaf has 4 entries, and there are rows for one split: the fifth insertion makes it.
+const ONE_SPLIT: Room = Room { pages: 200, rows: 44, sessions: 1 };
+
+#[test]
+fn a_map_whose_room_is_fixed_is_full_and_goes_on() {
+    let map = GrowingMap::open_fixed(&Index::new(4).unwrap(), ONE_SPLIT).unwrap();
+    assert_eq!(map.renew(10), Err(Error::Full));
+    let mut session = map.session().unwrap();
+    for key in 1..6 {
+        assert_eq!(session.insert(key, 0), Ok(Answer::Inserted));
+    }
+    assert_eq!((session.insert(6, 60), session.put(6, 60), session.get(6)), (Err(Error::Full), Err(Error::Full), None));
+    for pointer in 0..1_000 {
+        assert_eq!(session.put(5, pointer + 1), Ok(Some(pointer)));
+    }
+    assert_eq!(session.insert(5, 50), Ok(Answer::Exists(1_000)));
+    assert_eq!(session.remove(1), Ok(Answer::Removed(0)));
+    assert_eq!((session.insert(1, 10), map.renew(10)), (Err(Error::Full), Err(Error::Full)));
+    drop(session);
+    assert_eq!(map.close().unwrap().iter().collect::<Vec<_>>(), [(2, 0), (3, 0), (4, 0), (5, 1_000)]);
+}
+
+// A held session finds it full as a free one does, and is held by its next change.
+#[test]
+fn a_held_session_of_a_full_map_goes_on() {
+    let map = GrowingMap::open_fixed(&Index::new(4).unwrap(), ONE_SPLIT).unwrap();
+    let mut session = map.session().unwrap();
+    let mut held = session.hold();
+    for key in 1..6 {
+        assert_eq!(held.insert(key, 0), Ok(Answer::Inserted));
+    }
+    assert_eq!((held.insert(6, 60), held.put(5, 50), held.get(5)), (Err(Error::Full), Ok(Some(0)), Some(50)));
+    drop(held);
+    assert_eq!(session.get(6), None);
+}
+
+#[test]
+fn a_map_with_room_grows_beyond_it() {
+    let map = GrowingMap::open_with_room(&Index::new(4).unwrap(), ONE_SPLIT).unwrap();
+    let mut session = map.session().unwrap();
+    for key in 1..5_000 {
+        assert_eq!(session.insert(key, 10 * key), Ok(Answer::Inserted));
+    }
+    assert_eq!((session.get(4_999), session.count(..)), (Some(49_990), 4_999));
+    assert_eq!(map.renew(10), Ok(()));
+    drop(session);
+    assert_eq!(map.close().unwrap().len(), 4_999);
+}
+
+#[test]
+fn a_room_that_no_map_has_is_refused() {
+    let index = Index::new(32).unwrap();
+    let no_sessions = Room { sessions: 0, ..ONE_SPLIT };
+    let many_sessions = Room { sessions: 257, ..ONE_SPLIT };
+    // the index has a page
+    let large = Room { pages: 1_048_575, ..ONE_SPLIT };
+    for (room, error) in [(no_sessions, Error::BadSessions), (many_sessions, Error::BadSessions), (large, Error::TooLarge)] {
+        assert_eq!(GrowingMap::open_with_room(&index, room).unwrap_err(), error);
+        assert_eq!(GrowingMap::open_fixed(&index, room).unwrap_err(), error);
+    }
+    assert_eq!(GrowingMap::with_capacity(100, 0).unwrap_err(), Error::BadSessions);
+    assert_eq!(GrowingMap::with_capacity(u32::MAX, 1).unwrap_err(), Error::TooLarge);
+}
+
+// A room for all insertions is no more than enough: a fixed map takes them.
+#[test]
+fn a_fixed_map_takes_the_insertions_that_its_room_is_for() {
+    let index = Index::new(32).unwrap();
+    let map = GrowingMap::open_fixed(&index, Room::for_insertions(&index, 20_000, 2)).unwrap();
+    thread::scope(|scope| {
+        for thread in 0..2 {
+            let mut session = map.session().unwrap();
+            scope.spawn(move || {
+                for key in (thread..20_000).step_by(2) {
+                    assert_eq!(session.insert(key, key), Ok(Answer::Inserted));
+                }
+            });
+        }
+    });
+    assert_eq!(map.close().unwrap().len(), 20_000);
 }
 
 #[test]

@@ -79,5 +79,5 @@ returns-after-lacks_room_in_all-clause-refused c =
     } in
     elim c.if-lacks_room_in_all.branch [
       | then-lacks_room_in_all w ↦ subst (IsNotMade c.args.op old new) (sym w.refusal-is) sees
-      | else-lacks_room_in_all w ↦ subst (IsNotMade c.args.op old new) (sym w.refusal-is) (inr (inr (inr refl)), sees)
+      | else-lacks_room_in_all w ↦ subst (IsNotMade c.args.op old new) (sym w.refusal-is) (inr (inr (inr (inl refl))), sees)
     ]
