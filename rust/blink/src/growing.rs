@@ -4,7 +4,7 @@ use crate::changes::Changes;
 use crate::operation::Answer;
 use crate::range::{snapshot, LiveRange};
 use crate::sys::{self, Code, Handle, RawAnswer, RawEntry, RawScanned, RawTaken};
-use crate::waiting::{MOST_TRIES, TRIES};
+use crate::waiting::{ended, TRIES};
 use crate::{Error, Index, Room};
 use std::fmt;
 use std::ops::{Bound, Deref, DerefMut, RangeBounds};
@@ -453,27 +453,9 @@ impl GrowingSession {
         Holding { session: self }
     }
 
-    // Begins an operation, and takes its steps to the end. It begins again where the session's rows were on their way back, and where the map
-    // was being renewed or couldn't be, with more tries then.
-    fn ended(&mut self, mut begin: impl FnMut(*mut Handle, u32, *mut RawAnswer) -> Code) -> Result<Answer, Error> {
-        let mut answer = RawAnswer::NONE;
-        let mut tries = TRIES;
-        let mut code = begin(&mut self.handle, tries, &mut answer);
-        loop {
-            code = match code {
-                // SAFETY: as in `get`; an operation is under way.
-                sys::PENDING => unsafe { sys::blink_growing_session_advance(&mut self.handle, TRIES, &mut answer) },
-                sys::ROWS_BUSY => begin(&mut self.handle, tries, &mut answer),
-                sys::RENEWING => {
-                    tries = (10 * tries).min(MOST_TRIES);
-                    begin(&mut self.handle, tries, &mut answer)
-                }
-                code => return Error::check(code).map(|()| Answer::of(answer)),
-            };
-            if matches!(code, sys::PENDING | sys::ROWS_BUSY | sys::RENEWING) {
-                thread::yield_now();
-            }
-        }
+    // Begins an operation, and takes its steps to the end.
+    fn ended(&mut self, begin: impl FnMut(*mut Handle, u32, *mut RawAnswer) -> Code) -> Result<Answer, Error> {
+        ended(&mut self.handle, begin, sys::blink_growing_session_advance)
     }
 }
 

@@ -3,13 +3,12 @@
 use crate::changes::Changes;
 use crate::range::{snapshot, LiveRange};
 use crate::sys::{self, Code, Handle, RawAnswer};
-use crate::waiting::TRIES;
+use crate::waiting::ended;
 use crate::{Answer, Error, Index, Op};
 use std::fmt;
 use std::marker::PhantomData;
 use std::ops::{Bound, RangeBounds};
 use std::sync::{Arc, Mutex, MutexGuard, PoisonError};
-use std::thread;
 
 /// What a map has beside its entries, for changes and sessions to come. [`Room::for_insertions`] and [`Map::with_capacity`] work it out; the
 /// numbers are for a program that knows its keys.
@@ -566,19 +565,19 @@ impl<'map> Session<'map> {
     /// [what a full map takes](Map#a-map-that-is-full) goes on. The call waits where the session has the room once its rows have come back.
     pub fn insert(&mut self, key: u64, pointer: u64) -> Result<Answer, Error> {
         // SAFETY: as in `get`.
-        self.ended(|handle, answer| unsafe { sys::blink_session_insert(handle, key, pointer, TRIES, answer) })
+        self.ended(|handle, tries, answer| unsafe { sys::blink_session_insert(handle, key, pointer, tries, answer) })
     }
 
     /// Takes a key away, if it is there: [`Answer::Removed`] or [`Answer::Absent`].
     pub fn remove(&mut self, key: u64) -> Result<Answer, Error> {
         // SAFETY: as in `get`.
-        self.ended(|handle, answer| unsafe { sys::blink_session_delete(handle, key, TRIES, answer) })
+        self.ended(|handle, tries, answer| unsafe { sys::blink_session_delete(handle, key, tries, answer) })
     }
 
     /// Maps a key to a pointer, if the key is there: [`Answer::Replaced`] or [`Answer::Absent`].
     pub fn replace(&mut self, key: u64, pointer: u64) -> Result<Answer, Error> {
         // SAFETY: as in `get`.
-        self.ended(|handle, answer| unsafe { sys::blink_session_replace(handle, key, pointer, TRIES, answer) })
+        self.ended(|handle, tries, answer| unsafe { sys::blink_session_replace(handle, key, pointer, tries, answer) })
     }
 
     /// Maps a key to `new`, if it maps to `expected`: [`Answer::Replaced`] with `expected`. Else the key stays as it was:
@@ -599,7 +598,7 @@ impl<'map> Session<'map> {
     /// ```
     pub fn compare_exchange(&mut self, key: u64, expected: u64, new: u64) -> Result<Answer, Error> {
         // SAFETY: as in `get`.
-        self.ended(|handle, answer| unsafe { sys::blink_session_exchange(handle, key, expected, new, TRIES, answer) })
+        self.ended(|handle, tries, answer| unsafe { sys::blink_session_exchange(handle, key, expected, new, tries, answer) })
     }
 
     /// Takes a key away, if it maps to `expected`: [`Answer::Removed`] with `expected`. Else the key stays as it was:
@@ -620,7 +619,7 @@ impl<'map> Session<'map> {
     /// ```
     pub fn compare_remove(&mut self, key: u64, expected: u64) -> Result<Answer, Error> {
         // SAFETY: as in `get`.
-        self.ended(|handle, answer| unsafe { sys::blink_session_delete_exact(handle, key, expected, TRIES, answer) })
+        self.ended(|handle, tries, answer| unsafe { sys::blink_session_delete_exact(handle, key, expected, tries, answer) })
     }
 
     /// Maps a key to what `next` makes of the pointer that it maps to, or of none, in one step: when the change is made, the key maps
@@ -662,7 +661,7 @@ impl<'map> Session<'map> {
     /// ```
     pub fn put(&mut self, key: u64, pointer: u64) -> Result<Option<u64>, Error> {
         // SAFETY: as in `get`.
-        let put = self.ended(|handle, answer| unsafe { sys::blink_session_put(handle, key, pointer, TRIES, answer) })?;
+        let put = self.ended(|handle, tries, answer| unsafe { sys::blink_session_put(handle, key, pointer, tries, answer) })?;
         Ok(put.pointer())
     }
 
@@ -815,21 +814,9 @@ impl<'map> Session<'map> {
         }
     }
 
-    // Begins an operation, and takes its steps to the end. It begins again where the session's rows were on their way back.
-    fn ended(&mut self, mut begin: impl FnMut(*mut Handle, *mut RawAnswer) -> Code) -> Result<Answer, Error> {
-        let mut answer = RawAnswer::NONE;
-        let mut code = begin(&mut self.handle, &mut answer);
-        loop {
-            code = match code {
-                // SAFETY: as in `get`; an operation is under way.
-                sys::PENDING => unsafe { sys::blink_session_advance(&mut self.handle, TRIES, &mut answer) },
-                sys::ROWS_BUSY => begin(&mut self.handle, &mut answer),
-                code => return Error::check(code).map(|()| Answer::of(answer)),
-            };
-            if matches!(code, sys::PENDING | sys::ROWS_BUSY) {
-                thread::yield_now();
-            }
-        }
+    // Begins an operation, and takes its steps to the end.
+    fn ended(&mut self, begin: impl FnMut(*mut Handle, u32, *mut RawAnswer) -> Code) -> Result<Answer, Error> {
+        ended(&mut self.handle, begin, sys::blink_session_advance)
     }
 }
 

@@ -1,5 +1,6 @@
-//! Calls of a growing map that are stopped inside. Beside a stopped call of a session the map is renewed, or isn't, and the call goes on; and
-//! beside a stopped renewal calls of sessions answer, or say that the map is being renewed.
+//! Calls of a growing map that are stopped inside. Beside a stopped call of a session the map is renewed, or isn't, and the call goes on;
+//! beside a stopped renewal calls of sessions answer, or say that the map is being renewed; and a stopped change ends inside a renewal that
+//! began beside it.
 #![cfg(all(target_os = "linux", target_arch = "x86_64", target_env = "gnu"))]
 
 mod stepped;
@@ -7,7 +8,8 @@ mod stepped;
 use blink::{Answer, Error, GrowingMap, GrowingSession, Index};
 use std::ffi::{c_int, c_void};
 use std::fmt::Debug;
-use std::{mem, ptr};
+use std::sync::atomic::{AtomicU32, Ordering};
+use std::{mem, ptr, thread};
 use stepped::by_instruction;
 
 const ENTRIES: [(u64, u64); 4] = [(1, 10), (2, 20), (3, 30), (4, 40)];
@@ -87,6 +89,16 @@ struct RawAnswer {
     pointer: u64,
 }
 
+#[repr(C)]
+#[derive(Clone, Copy, PartialEq, Debug)]
+struct RawEntry {
+    key: u64,
+    pointer: u64,
+}
+
+// What `blink_scanned` and `blink_taken` have room in.
+type RawTold = [u64; 4];
+
 const DONE: c_int = 0;
 const RENEWING: c_int = 109;
 
@@ -96,12 +108,43 @@ extern "C" {
     fn blink_index_find(index: *const Handle, key: u64, pointer: *mut u64) -> bool;
     fn blink_index_free(index: Handle);
     fn blink_growing_open(index: *const Handle, sessions: u32, out: *mut Handle) -> c_int;
+    fn blink_growing_share(map: *mut Handle, out: *mut Handle) -> c_int;
     fn blink_growing_join(map: *mut Handle, out: *mut Handle) -> c_int;
     fn blink_growing_renew(map: *mut Handle, looks: u32) -> c_int;
     fn blink_growing_close(map: *mut Handle, out: *mut Handle) -> c_int;
     fn blink_growing_free(map: Handle);
     fn blink_growing_session_find(session: *mut Handle, key: u64, tries: u32, answer: *mut RawAnswer) -> c_int;
+    fn blink_growing_session_scan(
+        session: *mut Handle,
+        lo: u64,
+        hi: u64,
+        tries: u32,
+        entries: *mut RawEntry,
+        places: usize,
+        scanned: *mut RawTold,
+    ) -> c_int;
+    fn blink_growing_session_scan_back(
+        session: *mut Handle,
+        lo: u64,
+        hi: u64,
+        tries: u32,
+        entries: *mut RawEntry,
+        places: usize,
+        scanned: *mut RawTold,
+    ) -> c_int;
+    fn blink_growing_session_snapshot(
+        session: *mut Handle,
+        lo: u64,
+        hi: u64,
+        tries: u32,
+        entries: *mut RawEntry,
+        places: usize,
+        taken: *mut RawTold,
+    ) -> c_int;
+    fn blink_growing_session_insert(session: *mut Handle, key: u64, pointer: u64, tries: u32, answer: *mut RawAnswer) -> c_int;
     fn blink_growing_session_replace(session: *mut Handle, key: u64, pointer: u64, tries: u32, answer: *mut RawAnswer) -> c_int;
+    fn blink_growing_session_hold(session: *mut Handle, tries: u32) -> c_int;
+    fn blink_growing_session_let_go(session: *mut Handle);
     fn blink_growing_session_free(session: Handle);
 }
 
@@ -116,6 +159,7 @@ impl Handle {
 
 // A session that looks one key up, and gives another one the next greater pointer each time.
 struct Caller {
+    map: Handle,
     session: Handle,
     pointer: u64,
     answered: u32,
@@ -129,7 +173,9 @@ impl Caller {
     fn joining(map: &mut Handle) -> Caller {
         // SAFETY: the map's handle is full.
         let session = Handle::filled(|out| unsafe { blink_growing_join(map, out) });
-        Caller { session, pointer: 20, answered: 0, refused: 0, searched: 0 }
+        // SAFETY: as before.
+        let map = Handle::filled(|out| unsafe { blink_growing_share(map, out) });
+        Caller { map, session, pointer: 20, answered: 0, refused: 0, searched: 0 }
     }
 
     // Each call answers as if nobody renewed the map, or changes nothing and says that somebody does.
@@ -143,6 +189,7 @@ impl Caller {
             }
             code => {
                 assert_eq!(code, RENEWING);
+                self.reads_are_refused();
                 false
             }
         };
@@ -157,8 +204,27 @@ impl Caller {
                 assert_eq!(code, RENEWING);
                 self.refused += 1;
                 self.searched += u32::from(found);
+                self.nobody_else_renews();
             }
         }
+    }
+
+    // Where a search is refused, each other read is, and stores nothing.
+    fn reads_are_refused(&mut self) {
+        const NONE: RawEntry = RawEntry { key: 0, pointer: 0 };
+        let (mut entries, mut told) = ([NONE; 4], RawTold::default());
+        for read in [blink_growing_session_scan, blink_growing_session_scan_back, blink_growing_session_snapshot] {
+            // SAFETY: the handle is full and this caller's own; the array has four places.
+            let code = unsafe { read(&mut self.session, 0, u64::MAX, 1, entries.as_mut_ptr(), 4, &mut told) };
+            assert_eq!((code, entries, told), (RENEWING, [NONE; 4], RawTold::default()));
+        }
+    }
+
+    // Where a change is refused, so are a hold and another renewal.
+    fn nobody_else_renews(&mut self) {
+        // SAFETY: the handles are full and this caller's own.
+        let codes = unsafe { (blink_growing_session_hold(&mut self.session, 1), blink_growing_renew(&mut self.map, 1)) };
+        assert_eq!(codes, (RENEWING, RENEWING));
     }
 }
 
@@ -194,6 +260,7 @@ fn calls_beside_a_renewal(sessions: u32) -> Caller {
         assert_eq!((blink_growing_session_find(&mut caller.session, 2, 1, &mut answer), answer.pointer), (DONE, caller.pointer));
         idle.into_iter().for_each(|session| blink_growing_session_free(session));
         blink_growing_session_free(mem::replace(&mut caller.session, Handle { at: ptr::null_mut() }));
+        blink_growing_free(mem::replace(&mut caller.map, Handle { at: ptr::null_mut() }));
         let closed = Handle::filled(|out| blink_growing_close(&mut map, out));
         for (key, expected) in [(1, 10), (2, caller.pointer), (3, 30), (4, 40)] {
             let mut found = 0;
@@ -218,4 +285,173 @@ fn calls_beside_a_renewal_that_is_stopped_anywhere_answer_or_are_refused() {
 fn searches_go_on_beside_a_renewal_that_is_stopped_anywhere() {
     let Caller { refused, searched, .. } = calls_beside_a_renewal(2);
     assert!(searched > refused / 10 * 9, "{searched} of {refused}");
+}
+
+// ---- a change that ends inside a renewal
+
+// Whose turn it is, of the thread that changes the map and the one that renews it.
+const CHANGE: u32 = 0;
+const RENEWAL: u32 = 1;
+const REST_OF_CHANGE: u32 = 2;
+const REST_OF_RENEWAL: u32 = 3;
+
+// Waits until it is this turn, or a later one.
+fn waits_for(turn: &AtomicU32, wanted: u32) {
+    while turn.load(Ordering::SeqCst) < wanted {
+        thread::yield_now();
+    }
+}
+
+// Handles of one growing map, each for one thread at a time.
+struct Shared {
+    index: Handle,
+    map: Handle,
+    renewing: Handle,
+    changing: Handle,
+    looking: Handle,
+}
+
+// SAFETY: the handles are lent to one thread each.
+unsafe impl Sync for Shared {}
+
+impl Shared {
+    // A map in which keys 1 to 4 have ten times as much for pointers, with a third place, whose session rests.
+    fn open() -> Shared {
+        // SAFETY: handles are filled once.
+        unsafe {
+            let mut index = Handle::filled(|out| blink_index_new(4, out));
+            for (key, pointer) in ENTRIES {
+                let mut answer = RawAnswer { kind: 0, pointer: 0 };
+                assert_eq!(blink_index_insert(&mut index, key, pointer, &mut answer), DONE);
+            }
+            let mut map = Handle::filled(|out| blink_growing_open(&index, 3, out));
+            let renewing = Handle::filled(|out| blink_growing_share(&mut map, out));
+            let changing = Handle::filled(|out| blink_growing_join(&mut map, out));
+            let looking = Handle::filled(|out| blink_growing_join(&mut map, out));
+            Shared { index, map, renewing, changing, looking }
+        }
+    }
+
+    // Closes the map, and returns whether key 5 has pointer 50 in it. All else is there.
+    fn close(self) -> bool {
+        let Shared { index, mut map, renewing, changing, looking } = self;
+        // SAFETY: each handle is freed once, and nobody else has it.
+        unsafe {
+            blink_growing_session_free(changing);
+            blink_growing_session_free(looking);
+            blink_growing_free(renewing);
+            let closed = Handle::filled(|out| blink_growing_close(&mut map, out));
+            let mut found = 0;
+            for (key, expected) in ENTRIES {
+                assert!(blink_index_find(&closed, key, &mut found) && found == expected);
+            }
+            let is_there = blink_index_find(&closed, 5, &mut found) && found == 50;
+            blink_growing_free(map);
+            blink_index_free(closed);
+            blink_index_free(index);
+            is_there
+        }
+    }
+}
+
+// Begins to insert key 5, and renews the map after so many instructions; and the insertion goes on after so many instructions of the renewal.
+// The key is there afterwards exactly if the insertion was made. Returns whether it was made while the entries were copied: then a search by
+// another session was answered just before, and a change would not have been.
+fn inserts_during_a_copy(instructions: u32, of_renewal: u32) -> bool {
+    let shared = Shared::open();
+    let turn = AtomicU32::new(CHANGE);
+    let (mut passed, mut copies) = (0, false);
+    let code = thread::scope(|scope| {
+        let (theirs, turn) = (&shared, &turn);
+        scope.spawn(move || {
+            waits_for(turn, RENEWAL);
+            let mut renewed = 0;
+            let mut map = Handle { at: theirs.renewing.at };
+            let code = by_instruction(
+                // SAFETY: this thread alone has the handle.
+                || unsafe { blink_growing_renew(&mut map, 1) },
+                || {
+                    renewed += 1;
+                    if renewed == of_renewal {
+                        turn.fetch_max(REST_OF_CHANGE, Ordering::SeqCst);
+                        waits_for(turn, REST_OF_RENEWAL);
+                    }
+                    renewed < of_renewal
+                },
+            );
+            turn.fetch_max(REST_OF_CHANGE, Ordering::SeqCst);
+            assert!(code == DONE || code == RENEWING);
+        });
+        let (mut session, mut other) = (Handle { at: shared.changing.at }, Handle { at: shared.looking.at });
+        let mut answer = RawAnswer { kind: 0, pointer: 0 };
+        let code = by_instruction(
+            // SAFETY: this thread alone has the handles.
+            || unsafe { blink_growing_session_insert(&mut session, 5, 50, 1, &mut answer) },
+            || {
+                passed += 1;
+                if passed == instructions {
+                    turn.fetch_max(RENEWAL, Ordering::SeqCst);
+                    waits_for(turn, REST_OF_CHANGE);
+                    // SAFETY: as before.
+                    copies = unsafe { is_copied(&mut other) };
+                }
+                passed < instructions
+            },
+        );
+        turn.fetch_max(REST_OF_RENEWAL, Ordering::SeqCst);
+        code
+    });
+    assert!(passed >= instructions && (code == DONE || code == RENEWING));
+    assert_eq!(shared.close(), code == DONE, "after {instructions} and {of_renewal} instructions");
+    copies && code == DONE
+}
+
+// Whether the map is being renewed, and searches go on: its entries are being copied. The handle is this thread's own.
+unsafe fn is_copied(session: &mut Handle) -> bool {
+    let mut answer = RawAnswer { kind: 0, pointer: 0 };
+    if blink_growing_session_find(session, 1, 1, &mut answer) != DONE {
+        return false;
+    }
+    assert_eq!(answer.pointer, 10);
+    if blink_growing_session_hold(session, 1) == RENEWING {
+        return true;
+    }
+    blink_growing_session_let_go(session);
+    false
+}
+
+// Whether an insertion has its session after so many instructions, so that the map can't be renewed.
+fn is_taken_after(instructions: u32) -> bool {
+    let mut shared = Shared::open();
+    let (mut passed, mut renewed) = (0, DONE);
+    let mut answer = RawAnswer { kind: 0, pointer: 0 };
+    let (changing, renewing) = (&mut shared.changing, &mut shared.renewing);
+    let code = by_instruction(
+        // SAFETY: this thread alone has the handles.
+        || unsafe { blink_growing_session_insert(changing, 5, 50, 1, &mut answer) },
+        || {
+            passed += 1;
+            if passed == instructions {
+                // SAFETY: as before.
+                renewed = unsafe { blink_growing_renew(renewing, 1) };
+            }
+            passed < instructions
+        },
+    );
+    assert_eq!(shared.close(), code == DONE);
+    renewed == RENEWING
+}
+
+// A change that has found no renewal under way takes its session only then, and a renewal may be copying the entries by that time. It copies
+// them again.
+#[test]
+fn a_change_that_ends_while_the_entries_are_copied_is_not_lost() {
+    let taken = (1..100_000).find(|&instructions| is_taken_after(instructions)).expect("a change takes its session");
+    let mut made = 0;
+    for instructions in taken - 8..=taken {
+        for of_renewal in [3_000, 6_000, 12_000, 24_000, 48_000] {
+            made += u32::from(inserts_during_a_copy(instructions, of_renewal));
+        }
+    }
+    assert!(made > 0);
 }
