@@ -788,6 +788,11 @@ int blink_growing_session_advance(blink_growing_session *session, uint32_t tries
 int blink_growing_session_hold(blink_growing_session *session, uint32_t tries);
 void blink_growing_session_let_go(blink_growing_session *session);
 
+/* Tells what the session has of page numbers and rows in the map that it is in just now, for a look: as blink_session_reserve does. Where the
+ * room is fixed, that shows how near its end is. The session is held for the call. Refused: BLINK_PENDING; BLINK_RENEWING; then `reserve` stays
+ * as it was. */
+int blink_growing_session_reserve(blink_growing_session *session, uint32_t tries, blink_reserve *reserve);
+
 /* Frees the handle. A session leaves its map by it, and its place can be taken again. An operation under way goes on to its end before. If it
  * still waits for another session after 1,000 tries, the session is lost, and the map can be neither renewed nor closed any more. */
 void blink_growing_session_free(blink_growing_session session);
@@ -962,6 +967,13 @@ static inline int blink_growing_session_snapshot_wait(blink_growing_session *ses
 static inline int blink_growing_session_hold_wait(blink_growing_session *session) {
     int code;
     while ((code = blink_growing_session_hold(session, BLINK_TRIES)) == BLINK_RENEWING) sched_yield();
+    return code;
+}
+
+/* Tells what the session has as blink_growing_session_reserve does, and waits while the map is renewed. */
+static inline int blink_growing_session_reserve_wait(blink_growing_session *session, blink_reserve *reserve) {
+    int code;
+    while ((code = blink_growing_session_reserve(session, BLINK_TRIES, reserve)) == BLINK_RENEWING) sched_yield();
     return code;
 }
 

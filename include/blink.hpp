@@ -486,6 +486,11 @@ public:
     std::optional<std::vector<Entry>> snapshot(Key lo, Key hi, std::uint32_t tries) {
         return detail::snapshot(&handle_, [](auto... all) { return blink_growing_session_snapshot_wait(all...); }, lo, hi, tries);
     }
+    Reserve reserve() {
+        Reserve reserve{0, 0, 0, 0, 0};
+        detail::check(blink_growing_session_reserve_wait(&handle_, &reserve));
+        return reserve;
+    }
     blink_growing_session *handle() noexcept { return &handle_; }
 
 private:

@@ -172,6 +172,7 @@ def _declared():
     yield "blink_growing_session_advance", CODE, handle, u32, answer
     yield "blink_growing_session_hold", CODE, handle, u32
     yield "blink_growing_session_let_go", None, handle
+    yield "blink_growing_session_reserve", CODE, handle, u32, reserve
     for it in "index", "reader", "map", "session", "table", "pass", "growing", "growing_session":
         yield f"blink_{it}_free", None, _Handle
 
@@ -643,6 +644,11 @@ class GrowingSession(_Ranges, _Updates):
                 return answer.pointer
             if self.insert(key, pointer).kind == INSERTED:
                 return None
+
+    def reserve(self):
+        reserve = _Reserve()
+        _check(self._waits(lambda tries: self._call("reserve", tries, reserve)))
+        return Reserve(*(getattr(reserve, field) for field in Reserve._fields))
 
     @contextlib.contextmanager
     def hold(self):

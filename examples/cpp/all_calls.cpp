@@ -163,7 +163,9 @@ static void chooses_the_room_of_a_growing_map(bool fixed) {
     blink::GrowingMap map(index, blink::Room{200, 44, 1}, fixed);
     {
         blink::GrowingSession session = map.join();
+        CHECK(session.reserve().pages == 0);
         for (std::uint64_t key = 1; key < 6; key++) CHECK(is(session.insert(key, 10 * key), BLINK_INSERTED, 0));
+        CHECK(session.reserve().pages > 0);
         CHECK(fixed == refused(BLINK_FULL, [&] { session.insert(6, 60); }) && session.find(6).has_value() != fixed);
         CHECK(fixed == refused(BLINK_FULL, [&] { map.renew(); }));
         CHECK(session.put(5, 51) == 50u && is(session.remove(1), BLINK_REMOVED, 10) && session.find(5) == 51u);

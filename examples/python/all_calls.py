@@ -211,8 +211,10 @@ def chooses_the_room_of_a_growing_map(fixed):
     index = blink.Index(4)
     shared = blink.GrowingMap.with_room(index, 200, 44, 1, fixed)
     session = shared.join()
+    assert session.reserve() == (0, 0, 0, 0, 0)
     for key in range(1, 6):
         assert session.insert(key, 10 * key) == (INSERTED, 0)
+    assert session.reserve().pages > 0
     if fixed:
         assert refuses(blink.Error, session.insert, 6, 60).name == "FULL" and session.find(6) is None
         assert refuses(blink.Error, shared.renew).name == "FULL"

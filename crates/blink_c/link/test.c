@@ -1074,6 +1074,7 @@ static void changes_a_growing_map(void) {
 
 // A growing map with a room that is fixed or not. Its leaf has 4 entries, and there are rows for one split: the fifth insertion makes it.
 static void opens_a_growing_map_with_room(bool fixed) {
+    blink_reserve reserve = {9, 9, 9, 9, 9};
     blink_index index = {NULL}, closed = {NULL};
     blink_growing map = {NULL};
     blink_growing_session session = {NULL};
@@ -1085,8 +1086,11 @@ static void opens_a_growing_map_with_room(bool fixed) {
     CHECK(blink_growing_open_with_room(&index, 200, 44, 1, fixed, &map) == BLINK_DONE);
     blink_index_free(index);
     CHECK(blink_growing_join(&map, &session) == BLINK_DONE);
+    CHECK(blink_growing_session_reserve(&session, 1, &reserve) == BLINK_DONE && reserve.pages == 0 && reserve.unwritten == 0);
     for (uint64_t key = 1; key < 6; key++)
         CHECK(blink_growing_session_insert_wait(&session, key, 10 * key, &answer) == BLINK_DONE && is(answer, BLINK_INSERTED, 0));
+    // it drew 64 page numbers and the 44 rows; the split and the new root took two numbers, and wrote three pages and the prime block
+    CHECK(blink_growing_session_reserve_wait(&session, &reserve) == BLINK_DONE && reserve.pages == 62 && reserve.unwritten == 40);
     CHECK(blink_growing_session_insert_wait(&session, 6, 60, &answer) == (fixed ? BLINK_FULL : BLINK_DONE));
     CHECK(grows(&session, 6, fixed ? BLINK_ABSENT : BLINK_FOUND, fixed ? 0 : 60));
     CHECK(blink_growing_renew(&map, 1) == (fixed ? BLINK_FULL : BLINK_DONE));

@@ -5,14 +5,14 @@ ghost use Rattle.blink_batch.specs.declared.Op.TheVariants.{Delete, DeleteExact,
 ghost use Rattle.blink_map.specs.{IsUpdate};
 ghost use Rattle.blink_owners.specs.Codes.{TellsWhy};
 ghost use Rattle.blink_owners.specs.GrowCodes.{code_of};
-ghost use Rattle.blink_owners.specs.GrowingSessions.{EndsFrom, Finds, IsAdvanceRefusal, IsAway, IsOwnSession, IsTakeRefusal, KnowsSame, Scans, ScansBack, SeesMore, Takes};
+ghost use Rattle.blink_owners.specs.GrowingSessions.{EndsFrom, Finds, IsAdvanceRefusal, IsAway, IsOwnSession, IsTakeRefusal, KnowsSame, Scans, ScansBack, SeesMore, Takes, TellsStock};
 ghost use Rattle.blink_c.specs.Changing.{ChangesGrowing};
 
 use crate::growing_session_handle::GrowingSessionHandle;
 use blink_batch::{Entry, Op};
 use blink_map::FREE_TRIES;
 use blink_owners::grow_refusal::code_of;
-use blink_owners::raw::{RawAnswer, RawScanned, RawTaken};
+use blink_owners::raw::{RawAnswer, RawScanned, RawStock, RawTaken};
 use blink_owners::refusal::Code;
 use std::alloc::Global;
 
@@ -256,6 +256,23 @@ pub extern "C" fn blink_growing_session_let_go(session: &mut GrowingSessionHandl
     ensures goes_on { session.new.value.under_way ≡ session.old.value.under_way }
 {
     session.get().let_go();
+}
+
+/// Tells what the session has of page numbers and rows in the map that it is in just now. It looks `tries` times for the session, at least
+/// once, while the map is renewed.
+#[unsafe(no_mangle)]
+pub extern "C" fn blink_growing_session_reserve(
+    session: &mut GrowingSessionHandle,
+    tries: u32,
+    stock: &mut RawStock,
+) -> Code
+    requires its_own { IsOwnSession session.old.value }
+    ensures its_own { IsOwnSession session.new.value }
+    ensures told { result ≡ 0 → TellsStock session.old.value session.new.value stock.new }
+    ensures refused { TellsWhy code_of (IsAway session.old.value session.new.value) result }
+    ensures unchanged { result ≢ 0 → stock.new ≡ stock.old }
+{
+    code_of(&session.get().stock(tries, stock))
 }
 
 /// Frees the handle. The session rests at its place again, which can be taken. An operation under way is driven to its end before. If it

@@ -12,16 +12,17 @@ use Rattle.blink_grow.specs.declared.held.Held.{Held}
 use Rattle.blink_grow.specs.declared.growing.Session.{Session}
 use Rattle.blink_grow.specs.declared.held.PendingHeld.{PendingHeld}
 use Rattle.blink_grow.specs.declared.slots.Known.{Known}
-use Rattle.blink_grow.specs.{AnswersFrom, IsContinued, IsHeldOf, IsPendingOf, IsSessionOf, held_of, is_fixed, known_by, known_to, op_of, opening_of, place_of, place_of_held}
+use Rattle.blink_grow.specs.{AnswersFrom, IsContinued, IsHeldOf, IsPendingOf, IsSessionOf, held_of, is_fixed, known_by, known_to, op_of, opening_of, place_of, place_of_held, stock_of_held}
 use Rattle.blink_owners.specs.declared.raw.RawAnswer.{RawAnswer}
 use Rattle.blink_owners.specs.declared.raw.RawScanned.{RawScanned}
+use Rattle.blink_owners.specs.declared.raw.RawStock.{RawStock}
 use Rattle.blink_owners.specs.declared.raw.RawTaken.{RawTaken}
 use Rattle.blink_owners.specs.declared.grow_refusal.GrowRefusal.{GrowRefusal}
 use Rattle.blink_owners.specs.declared.grow_refusal.GrowRefusal.TheVariants as refused
 use Rattle.blink_owners.specs.declared.growing_session_owner.GrowingSessionOwner.{GrowingSessionOwner}
 use Rattle.blink_owners.specs.declared.growing_session_owner.NotMade.{NotMade}
 use Rattle.blink_owners.specs.declared.growing_session_owner.NotMade.TheVariants.{Refused, Full}
-use Rattle.blink_owners.specs.Raw.{raw_answer, raw_shown}
+use Rattle.blink_owners.specs.Raw.{raw_answer, raw_shown, raw_stock}
 use Rattle.blink_owners.specs.Reports.{HasReported, HasReportedBack, TellsTaken}
 
 -- the map
@@ -146,6 +147,16 @@ pub record Takes (lo hi : ℕ) (old new : GrowingSessionOwner) (places filled : 
 -- memory was refused; or the session can't be held
 abbrev pub IsTakeRefusal : GrowingSessionOwner → GrowingSessionOwner → GrowRefusal → Type 0
 IsTakeRefusal old new refusal = ((refusal ≡ refused.OutOfMemory) × SeesMore old new) ⊎ IsAway old new refusal
+
+-- ---- what the session has
+
+-- the session was held for the call, and this was its stock then
+pub record TellsStock (old new : GrowingSessionOwner) (given : RawStock) : Type 0 where
+  pub held : Held
+  pub its_own : IsHeldOf (in_growing old) held
+  pub stock : given ≡ raw_stock (stock_of_held held)
+  pub knows : known_in new ≡ known_by held
+  pub sees : SeesMore old new
 
 -- ---- operations that change the map
 

@@ -2,10 +2,10 @@
 ghost use Rattle.std.specs.Prelude.{◌≡◌, IfErr, IfOk, OnErr, OnOk};
 ghost use Rattle.blink_batch.specs.{FitsWords};
 ghost use Rattle.blink_grow.specs.{IsHeldOf, IsPendingOf, IsRefusalOf, IsUpdate};
-ghost use Rattle.blink_owners.specs.GrowingSessions.{Answers, EndsFrom, Finds, IsAdvanceRefusal, IsAtHand, IsAway, IsChangeRefusal, IsEmpty, IsGripped, IsNotMade, IsOwnSession, IsRested, IsTakeRefusal, IsTakenOut, KnowsSame, SeesMore, Scans, ScansBack, Takes, in_growing};
+ghost use Rattle.blink_owners.specs.GrowingSessions.{Answers, EndsFrom, Finds, IsAdvanceRefusal, IsAtHand, IsAway, IsChangeRefusal, IsEmpty, IsGripped, IsNotMade, IsOwnSession, IsRested, IsTakeRefusal, IsTakenOut, KnowsSame, SeesMore, Scans, ScansBack, Takes, TellsStock, in_growing};
 
 use crate::grow_refusal::GrowRefusal;
-use crate::raw::{REMOVED, RawAnswer, RawScanned, RawTaken};
+use crate::raw::{REMOVED, RawAnswer, RawScanned, RawStock, RawTaken};
 use crate::shared_growing::SharedGrowing;
 use blink_batch::{Entry, Op};
 use blink_grow::{GrowError, Held, PendingHeld, Session, StoppedHeld};
@@ -329,6 +329,20 @@ impl GrowingSessionOwner {
         if let Some(held) = self.held.take() {
             self.free = Some(self.shared.map.release(held));
         }
+    }
+
+    /// Tells what the session has of page numbers and rows in the current map. It is held for the call.
+    pub fn stock(&mut self, tries: u32, stock: &mut RawStock) -> Result<(), GrowRefusal>
+        requires its_own { IsOwnSession self.old }
+        ensures its_own { IsOwnSession self.new }
+        ensures told { OnOk result (TellsStock self.old self.new stock.new) }
+        ensures refused { IfErr result (IsAway self.old self.new) }
+        ensures unchanged { OnErr result (stock.new ≡ stock.old) }
+    {
+        let held = self.grip(tries)?;
+        *stock = RawStock::of(self.shared.map.stock(&held));
+        self.rest(held);
+        Ok(())
     }
 
     /// Frees the owner. The session rests at its place again. An operation under way goes on before: it takes its steps, so many times. If

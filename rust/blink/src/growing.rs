@@ -5,7 +5,7 @@ use crate::operation::Answer;
 use crate::range::{snapshot, LiveRange};
 use crate::sys::{self, Code, Handle, RawAnswer, RawEntry, RawScanned, RawTaken};
 use crate::waiting::{ended, TRIES};
-use crate::{Error, Index, Room};
+use crate::{Error, Index, Reserve, Room};
 use std::fmt;
 use std::ops::{Bound, Deref, DerefMut, RangeBounds};
 use std::sync::{Mutex, MutexGuard, PoisonError};
@@ -233,7 +233,7 @@ impl std::error::Error for UnclosedGrowing {}
 /// The right of one thread to read and change a growing map, of which it has a share. A session that is dropped leaves the map, and its place
 /// can be taken again.
 ///
-/// Its calls are those of [`Session`](crate::Session), and promise the same through all renewals; but it has no `tell`, no `reserve`, and no
+/// Its calls are those of [`Session`](crate::Session), and promise the same through all renewals; but it has no `tell`, and no
 /// operations by steps. None is refused with [`Error::Full`], unless the map's room is [fixed](GrowingMap::open_fixed). A change waits while the
 /// map is renewed, and a search only while the renewal gathers the sessions, or if [`GrowingMap::renew`] has taken this one for its copy. A
 /// change waits also for a page that another session has just then, and a change that finds the map full waits while another session is
@@ -451,6 +451,28 @@ impl GrowingSession {
         // No operation is under way between two calls; nothing else is refused.
         assert_eq!(code, 0);
         Holding { session: self }
+    }
+
+    /// Returns what the session has of page numbers and rows in the map that it is in just now, for a look. Where the room is
+    /// [fixed](GrowingMap::open_fixed), that shows how near its end is.
+    ///
+    /// ```
+    /// use blink::{GrowingMap, Index, Reserve, Room};
+    ///
+    /// let map = GrowingMap::open_fixed(&Index::new(32)?, Room { pages: 200, rows: 400, sessions: 1 })?;
+    /// let mut session = map.session()?;
+    /// session.insert(5, 50)?;
+    /// // it has drawn 64 page numbers and half of the rows, and the insertion was appended to the leaf's row
+    /// assert_eq!(session.reserve(), Reserve { pages: 64, unwritten: 200, free: 0, taken_out: 0, waiting: 0 });
+    /// # Ok::<(), blink::Error>(())
+    /// ```
+    pub fn reserve(&mut self) -> Reserve {
+        let mut reserve = Reserve { pages: 0, unwritten: 0, free: 0, taken_out: 0, waiting: 0 };
+        // SAFETY: as in `get`.
+        let code = renewed(|| unsafe { sys::blink_growing_session_reserve(&mut self.handle, TRIES, &mut reserve) });
+        // No operation is under way between two calls; nothing else is refused.
+        assert_eq!(code, 0);
+        reserve
     }
 
     // Begins an operation, and takes its steps to the end.

@@ -445,5 +445,6 @@ extern "C" {
     pub(crate) fn blink_growing_session_advance(session: *mut Handle, tries: u32, answer: *mut RawAnswer) -> Code;
     pub(crate) fn blink_growing_session_hold(session: *mut Handle, tries: u32) -> Code;
     pub(crate) fn blink_growing_session_let_go(session: *mut Handle);
+    pub(crate) fn blink_growing_session_reserve(session: *mut Handle, tries: u32, reserve: *mut crate::Reserve) -> Code;
     pub(crate) fn blink_growing_session_free(session: Handle);
 }
