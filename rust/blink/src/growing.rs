@@ -3,9 +3,10 @@
 use crate::changes::Changes;
 use crate::operation::Answer;
 use crate::range::{snapshot, LiveRange};
+use crate::steps::{begins, Begun};
 use crate::sys::{self, Code, Handle, RawAnswer, RawEntry, RawScanned, RawTaken};
 use crate::waiting::{ended, TRIES};
-use crate::{Error, Index, Reserve, Room};
+use crate::{Error, Index, Op, Reserve, Room};
 use std::fmt;
 use std::ops::{Bound, Deref, DerefMut, RangeBounds};
 use std::sync::{Mutex, MutexGuard, PoisonError};
@@ -233,13 +234,13 @@ impl std::error::Error for UnclosedGrowing {}
 /// The right of one thread to read and change a growing map, of which it has a share. A session that is dropped leaves the map, and its place
 /// can be taken again.
 ///
-/// Its calls are those of [`Session`](crate::Session), and promise the same through all renewals; but it has no `tell`, and no
-/// operations by steps. None is refused with [`Error::Full`], unless the map's room is [fixed](GrowingMap::open_fixed). A change waits while the
+/// Its calls are those of [`Session`](crate::Session), and promise the same through all renewals; but it has no `tell`, and
+/// no put by steps. None is refused with [`Error::Full`], unless the map's room is [fixed](GrowingMap::open_fixed). A change waits while the
 /// map is renewed, and a search only while the renewal gathers the sessions, or if [`GrowingMap::renew`] has taken this one for its copy. A
 /// change waits also for a page that another session has just then, and a change that finds the map full waits while another session is
 /// [held](GrowingSession::hold), so that the map can't be renewed.
 pub struct GrowingSession {
-    handle: Handle,
+    pub(crate) handle: Handle,
 }
 
 // SAFETY: `GrowingSessionHandle` of crates/blink_c is proved to be `Send`.
@@ -473,6 +474,72 @@ impl GrowingSession {
         // No operation is under way between two calls; nothing else is refused.
         assert_eq!(code, 0);
         reserve
+    }
+
+    /// Begins an operation and takes its first steps, which wait for nobody. Where another session has the page that it wants for
+    /// `tries` steps, it rests as an [`Unfinished`](crate::Unfinished), and the thread may do something else. A look-up ends at once. Where the
+    /// map is full, a change renews it, which takes the time of a copy of all entries.
+    ///
+    /// It is refused with [`Error::Renewing`], where the map is being renewed at so many looks, or can't be renewed since a session is held or
+    /// in a call; with [`Error::RowsBusy`], where rows of the session are on their way back; and as [`GrowingSession::insert`] is. A refusal hands
+    /// the session back, and nothing has changed.
+    ///
+    /// ```
+    /// use blink::{Answer, Begun, GrowingMap, Op};
+    ///
+    /// let map = GrowingMap::new(1)?;
+    /// let mut begun = map.session()?.begin(Op::Insert(5, 50), 10).map_err(|(_, error)| error)?;
+    /// let (mut session, answer) = loop {
+    ///     match begun {
+    ///         Begun::Ended(session, answer) => break (session, answer),
+    ///         Begun::Resting(unfinished) => begun = unfinished.advance(10), // something else may be done first
+    ///         Begun::Refused(_, error) => return Err(error), // of a put alone, which a growing map doesn't begin
+    ///     }
+    /// };
+    /// assert_eq!((answer, session.get(5)), (Answer::Inserted, Some(50)));
+    /// # Ok::<(), blink::Error>(())
+    /// ```
+    pub fn begin(mut self, op: Op, tries: u32) -> Result<Begun<'static, GrowingSession>, (GrowingSession, Error)> {
+        let mut answer = RawAnswer::NONE;
+        let handle = &mut self.handle;
+        // SAFETY: the handle is full and this call's own.
+        let code = unsafe {
+            match op {
+                Op::Get(key) => sys::blink_growing_session_find(handle, key, tries, &mut answer),
+                Op::Insert(key, pointer) => sys::blink_growing_session_insert(handle, key, pointer, tries, &mut answer),
+                Op::Remove(key) => sys::blink_growing_session_delete(handle, key, tries, &mut answer),
+                Op::Replace(key, pointer) => sys::blink_growing_session_replace(handle, key, pointer, tries, &mut answer),
+            }
+        };
+        begins(self, code, answer)
+    }
+
+    /// Begins an exchange of an expected pointer, as [`GrowingSession::begin`] begins an operation: it answers as
+    /// [`GrowingSession::compare_exchange`] does.
+    pub fn begin_compare_exchange(
+        mut self,
+        key: u64,
+        expected: u64,
+        pointer: u64,
+        tries: u32,
+    ) -> Result<Begun<'static, GrowingSession>, (GrowingSession, Error)> {
+        let mut answer = RawAnswer::NONE;
+        // SAFETY: the handle is full and this call's own.
+        let code = unsafe { sys::blink_growing_session_exchange(&mut self.handle, key, expected, pointer, tries, &mut answer) };
+        begins(self, code, answer)
+    }
+
+    /// Begins a removal of an expected pointer, likewise: it answers as [`GrowingSession::compare_remove`] does.
+    pub fn begin_compare_remove(
+        mut self,
+        key: u64,
+        expected: u64,
+        tries: u32,
+    ) -> Result<Begun<'static, GrowingSession>, (GrowingSession, Error)> {
+        let mut answer = RawAnswer::NONE;
+        // SAFETY: the handle is full and this call's own.
+        let code = unsafe { sys::blink_growing_session_delete_exact(&mut self.handle, key, expected, tries, &mut answer) };
+        begins(self, code, answer)
     }
 
     // Begins an operation, and takes its steps to the end.

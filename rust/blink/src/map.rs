@@ -2,6 +2,7 @@
 
 use crate::changes::Changes;
 use crate::range::{snapshot, LiveRange};
+use crate::steps::{begins, Begun};
 use crate::sys::{self, Code, Handle, RawAnswer};
 use crate::waiting::ended;
 use crate::{Answer, Error, Index, Op};
@@ -344,7 +345,7 @@ impl std::error::Error for Unclosed {}
 ///
 /// An operation that changes the map waits for a page that another session has just then, and yields its thread meanwhile.
 pub struct Session<'map> {
-    handle: Handle,
+    pub(crate) handle: Handle,
     // Dropped after the handle has been freed.
     _share: Option<Arc<Map>>,
     map: PhantomData<&'map Map>,
@@ -705,7 +706,7 @@ impl<'map> Session<'map> {
     }
 
     /// Begins an operation and takes its first steps, which wait for nobody. Where another session has the page that it wants for
-    /// `tries` steps, it rests as an [`Unfinished`], and the thread may do something else. A look-up ends at once.
+    /// `tries` steps, it rests as an [`Unfinished`](crate::Unfinished), and the thread may do something else. A look-up ends at once.
     ///
     /// It is refused with [`Error::Full`] as [`Session::insert`] is, and with [`Error::RowsBusy`] where that waits. A refusal hands the
     /// session back.
@@ -738,7 +739,7 @@ impl<'map> Session<'map> {
                 Op::Replace(key, pointer) => sys::blink_session_replace(handle, key, pointer, tries, &mut answer),
             }
         };
-        self.begins(code, answer)
+        begins(self, code, answer)
     }
 
     /// Begins an exchange of an expected pointer, as [`Session::begin`] begins an operation. Its answer is [`Answer::Replaced`] with the
@@ -753,7 +754,7 @@ impl<'map> Session<'map> {
         let mut answer = RawAnswer::NONE;
         // SAFETY: the handle is full and this call's own.
         let code = unsafe { sys::blink_session_exchange(&mut self.handle, key, expected, pointer, tries, &mut answer) };
-        self.begins(code, answer)
+        begins(self, code, answer)
     }
 
     /// Begins a removal of an expected pointer, likewise: its answer is [`Answer::Removed`] with the expected pointer,
@@ -767,7 +768,7 @@ impl<'map> Session<'map> {
         let mut answer = RawAnswer::NONE;
         // SAFETY: the handle is full and this call's own.
         let code = unsafe { sys::blink_session_delete_exact(&mut self.handle, key, expected, tries, &mut answer) };
-        self.begins(code, answer)
+        begins(self, code, answer)
     }
 
     /// Begins to put an entry, as [`Session::begin`] begins an operation: its answer is [`Answer::Inserted`], or [`Answer::Replaced`] with
@@ -794,24 +795,7 @@ impl<'map> Session<'map> {
         let mut answer = RawAnswer::NONE;
         // SAFETY: the handle is full and this call's own.
         let code = unsafe { sys::blink_session_put(&mut self.handle, key, pointer, tries, &mut answer) };
-        self.begins(code, answer)
-    }
-
-    // What has become of an operation that was to begin.
-    fn begins(self, code: Code, answer: RawAnswer) -> Result<Begun<'map>, (Session<'map>, Error)> {
-        match code {
-            0 | sys::PENDING => Ok(self.begun(code, answer)),
-            code => Err((self, Error::of(code))),
-        }
-    }
-
-    // What has become of an operation, by the code and the answer of its last call.
-    fn begun(self, code: Code, answer: RawAnswer) -> Begun<'map> {
-        match code {
-            0 => Begun::Ended(self, Answer::of(answer)),
-            sys::PENDING => Begun::Resting(Unfinished { session: self }),
-            code => Begun::Refused(self, Error::of(code)),
-        }
+        begins(self, code, answer)
     }
 
     // Begins an operation, and takes its steps to the end.
@@ -852,36 +836,5 @@ impl Drop for Session<'_> {
 impl fmt::Debug for Session<'_> {
     fn fmt(&self, f: &mut fmt::Formatter<'_>) -> fmt::Result {
         f.debug_struct("Session").finish_non_exhaustive()
-    }
-}
-
-/// What has become of an operation of a session: it has ended, or it rests; or it was a put, and is refused.
-#[derive(Debug)]
-pub enum Begun<'map> {
-    /// It has ended. The session is free again.
-    Ended(Session<'map>, Answer),
-    /// It rests, since another session has the page that it wants.
-    Resting(Unfinished<'map>),
-    /// A put that had begun is refused: [`Error::Full`] or [`Error::RowsBusy`]. It has changed nothing, and the session is free again.
-    Refused(Session<'map>, Error),
-}
-
-/// An operation of a session that has begun and not ended. The session can do nothing else meanwhile. No other session waits for it.
-///
-/// Dropping it takes the operation to its end, if that doesn't wait long for other sessions. Only a put may be left undone, where the
-/// session has no room for its other half. Else the session's place is lost, and nothing
-/// more: the operation has made its change, or never makes it.
-#[derive(Debug)]
-pub struct Unfinished<'map> {
-    session: Session<'map>,
-}
-
-impl<'map> Unfinished<'map> {
-    /// Takes the next steps, as [`Session::begin`] does the first ones. It waits for nobody.
-    pub fn advance(mut self, tries: u32) -> Begun<'map> {
-        let mut answer = RawAnswer::NONE;
-        // SAFETY: the handle is full and this call's own; an operation is under way, so nothing is refused but a put.
-        let code = unsafe { sys::blink_session_advance(&mut self.session.handle, tries, &mut answer) };
-        self.session.begun(code, answer)
     }
 }

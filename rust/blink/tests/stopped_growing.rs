@@ -5,7 +5,7 @@
 
 mod stepped;
 
-use blink::{Answer, Error, GrowingMap, GrowingSession, Index};
+use blink::{Answer, Begun, Error, GrowingMap, GrowingSession, Index, Op};
 use std::ffi::{c_int, c_void};
 use std::fmt::Debug;
 use std::sync::atomic::{AtomicU32, Ordering};
@@ -73,6 +73,44 @@ fn a_map_is_renewed_beside_an_insertion_that_is_stopped_anywhere() {
     let inserted = [(1, 10), (2, 20), (3, 30), (4, 40), (5, 50)];
     let after = |instructions| renews_after(instructions, |session| session.insert(5, 50), &Ok(Answer::Inserted), &inserted);
     is_held_up_once(&(0..100_000).step_by(101).map_while(after).collect::<Vec<_>>());
+}
+
+// Begins a replacement after so many instructions of another one of the key. Returns whether it rests then; none, if the first has fewer. Both
+// are made, one behind the other, and the second session has seen both.
+fn rests_after(instructions: u32) -> Option<bool> {
+    let map = GrowingMap::open(&Index::from_sorted(4, ENTRIES).unwrap(), 2).unwrap();
+    let (mut session, mut other) = (map.session().unwrap(), Some(map.session().unwrap()));
+    let (mut passed, mut begun) = (0, None);
+    let answer = by_instruction(
+        || session.replace(2, 21),
+        || {
+            if passed == instructions {
+                begun = other.take().map(|other| other.begin(Op::Replace(2, 22), 1));
+            }
+            passed += 1;
+            begun.is_none()
+        },
+    );
+    let (rests, mut other, replaced) = match begun?.map_err(|(_, error)| error).unwrap() {
+        Begun::Ended(other, Answer::Replaced(replaced)) => (false, other, replaced),
+        Begun::Resting(unfinished) => match unfinished.advance(1) {
+            Begun::Ended(other, Answer::Replaced(replaced)) => (true, other, replaced),
+            it => panic!("it waits for nobody any more: {it:?}"),
+        },
+        it => panic!("key 2 is there: {it:?}"),
+    };
+    let (first, last) = if replaced == 21 { (20, 22) } else { (22, 21) };
+    assert_eq!((answer, session.get(2)), (Ok(Answer::Replaced(first)), Some(last)), "after {instructions} instructions");
+    assert!((replaced == 20 || replaced == 21) && matches!(other.get(2), Some(21 | 22)));
+    drop((session, other));
+    assert_eq!(map.close().unwrap().get(2), Some(last));
+    Some(rests)
+}
+
+#[test]
+fn an_operation_rests_while_a_change_that_is_stopped_has_its_page() {
+    let rests: Vec<_> = (0..100_000).step_by(11).map_while(rests_after).collect();
+    assert!(!rests[0] && !rests[rests.len() - 1] && rests.iter().filter(|rests| **rests).count() > 5);
 }
 
 // ---- a renewal that is stopped again and again
