@@ -1,6 +1,6 @@
 //! The exports of a growing map.
-ghost use Rattle.std.specs.Prelude.{◌≡◌, ◌≢◌, ◌↔◌, None, IfSome, IsFalse, IsSome};
-ghost use Rattle.blink_grow.specs.{is_fixed};
+ghost use Rattle.std.specs.Prelude.{◌≡◌, ◌≢◌, ◌↔◌, None, IfSome, IsFalse, IsSome, length};
+ghost use Rattle.blink_grow.specs.{WhyNotInRoom, WhyNotOpened, is_fixed};
 ghost use Rattle.blink_index.specs.{map_of};
 ghost use Rattle.blink_owners.specs.Codes.{TellsWhy};
 ghost use Rattle.blink_owners.specs.GrowCodes.{code_of};
@@ -31,7 +31,8 @@ pub extern "C" fn blink_growing_open(
         (IsNewGrowing (map_of index.old.value) sessions) }
     ensures its_own { IfSome out.new.value IsOwnGrowing }
     ensures grows { IfSome out.new.value (λ map. IsFalse (is_fixed (growing_in map))) }
-    ensures refused { TellsWhy code_of IsOpenFault result }
+    ensures refused { TellsWhy code_of
+        (IsOpenFault (WhyNotOpened (length index.old.value.pages) sessions)) result }
     ensures unchanged { result ≢ 0 → out.new.value ≡ None }
     ensures same { index.new.value ≡ index.old.value }
 {
@@ -61,7 +62,9 @@ pub extern "C" fn blink_growing_open_with_room(
         (IsNewGrowing (map_of index.old.value) sessions) }
     ensures its_own { IfSome out.new.value IsOwnGrowing }
     ensures room { IfSome out.new.value (λ map. is_fixed (growing_in map) ≡ fixed) }
-    ensures refused { TellsWhy code_of IsOpenFault result }
+    ensures refused { TellsWhy code_of
+        (IsOpenFault (WhyNotInRoom (length index.old.value.pages)
+        (record { pages = pages; rows = rows; sessions = sessions }))) result }
     ensures unchanged { result ≢ 0 → out.new.value ≡ None }
     ensures same { index.new.value ≡ index.old.value }
 {

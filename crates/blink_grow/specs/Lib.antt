@@ -12,7 +12,7 @@ pub use Rattle.blink_grow.specs.Pendings.{GoesOn, HasBegun, HasStopped, IsPendin
 -- the places where sessions rest
 pub use Rattle.blink_grow.specs.Joining.{map_at}
 -- how a map opens: each session is the first of its place
-pub use Rattle.blink_grow.specs.Opening.{AreFirstSessions, IsFirstAt}
+pub use Rattle.blink_grow.specs.Opening.{AreFirstSessions, HasBadSessions, IsFirstAt, WhyNotInRoom, WhyNotOpened}
 -- how a map closes
 pub use Rattle.blink_grow.specs.Closing.{IsClosedWith, IsListOf, IsUnclosed}
 -- why a map wasn't renewed

@@ -1,10 +1,11 @@
 //! Opening a growing map.
-ghost use Rattle.std.specs.Prelude.{◌≡◌, ◌≤◌, ◌++◌, [], ◌∷◌, Some, All, IfOk, IsFalse, IsTrue, OnOk, length, replicate};
+ghost use Rattle.std.specs.Prelude.{◌≡◌, ◌≤◌, ◌++◌, [], ◌∷◌, Some, All, IfErr, IfOk, IsFalse, IsTrue, OnOk, length, replicate};
 ghost use Rattle.std.specs.Arc.{arc_value};
 ghost use Rattle.blink_index.specs.{map_of};
 ghost use Rattle.blink_map.specs.{opening_of as opening_of_map, places_of as places_of_map};
 ghost use Rattle.blink_grow.specs.Laid.{AreFirst, AreLaid};
-ghost use Rattle.blink_grow.specs.Opening.{AreFirstSessions, dealer};
+ghost use Rattle.blink_grow.specs.Opening.{AreFirstSessions, WhyNotInRoom, WhyNotOpened, dealer};
+ghost use Rattle.blink_grow.specs.declared.error.GrowError.TheVariants.{OutOfMemory};
 ghost use Rattle.blink_grow.specs.Sessions.{IsSessionOf, is_fixed, opening_of, places_of};
 
 use crate::error::GrowError;
@@ -56,6 +57,7 @@ impl GrowingMap {
         ensures dealt { IfOk result (λ opened. AreFirstSessions opened.0 opened.1.items) }
         ensures its_own { IfOk result (λ opened. All (IsSessionOf opened.0) opened.1.items) }
         ensures grows { IfOk result (λ opened. IsFalse (is_fixed opened.0)) }
+        ensures refused { IfErr result (WhyNotOpened (length index.now.pages) sessions) }
     {
         if sessions == 0 || sessions > MAX_SESSIONS {
             return Err(GrowError::Sessions);
@@ -81,6 +83,7 @@ impl GrowingMap {
         ensures dealt { IfOk result (λ opened. AreFirstSessions opened.0 opened.1.items) }
         ensures its_own { IfOk result (λ opened. All (IsSessionOf opened.0) opened.1.items) }
         ensures grows { IfOk result (λ opened. IsFalse (is_fixed opened.0)) }
+        ensures refused { IfErr result (WhyNotInRoom (length index.now.pages) room) }
     {
         GrowingMap::open_in(alloc, index, room, false)
     }
@@ -97,6 +100,7 @@ impl GrowingMap {
         ensures dealt { IfOk result (λ opened. AreFirstSessions opened.0 opened.1.items) }
         ensures its_own { IfOk result (λ opened. All (IsSessionOf opened.0) opened.1.items) }
         ensures fixed { IfOk result (λ opened. IsTrue (is_fixed opened.0)) }
+        ensures refused { IfErr result (WhyNotInRoom (length index.now.pages) room) }
     {
         GrowingMap::open_in(alloc, index, room, true)
     }
@@ -113,6 +117,7 @@ impl GrowingMap {
         ensures dealt { IfOk result (λ opened. AreFirstSessions opened.0 opened.1.items) }
         ensures its_own { IfOk result (λ opened. All (IsSessionOf opened.0) opened.1.items) }
         ensures room { IfOk result (λ opened. is_fixed opened.0 ≡ fixed) }
+        ensures refused { IfErr result (WhyNotInRoom (length index.now.pages) room) }
     {
         let numbers = u64::from(index.page_count()) + u64::from(room.pages);
         let (map, first) = match Map::open(alloc, index, room) {
@@ -171,6 +176,7 @@ fn table_of(
     ensures first { IfOk result
         (λ opened. opened.1.me ≡ (dealer (opening_of opened.0) (places_of opened.0) 0, [])) }
     ensures room { IfOk result (λ opened. is_fixed opened.0 ≡ fixed) }
+    ensures refused { IfErr result (λ refusal. refusal ≡ OutOfMemory) }
 {
     let count = slots.len();
     let Ok(words) = zeros(alloc, SLOT_WORDS * count) else {

@@ -1,5 +1,5 @@
 //! The room of a map that opens: how many page numbers and rows it has beside its entries.
-ghost use Rattle.std.specs.Prelude.{◌≡◌, ◌≤◌, ◌+◌, IfSome};
+ghost use Rattle.std.specs.Prelude.{◌≡◌, ◌<◌, ◌≤◌, ◌+◌, ◌*◌, IfSome, IsNone};
 ghost use Rattle.blink_page.specs.declared.limits.TheConstants.{MAX_PAGE};
 
 use blink_map::Room;
@@ -23,6 +23,7 @@ pub(crate) fn room_over(pages: u32, sessions: u32) -> Option<Room>
     requires sessions { sessions ≤ 256 }
     ensures sessions { IfSome result (λ room. room.sessions ≡ sessions) }
     ensures fits { IfSome result (λ room. pages + room.pages ≤ MAX_PAGE) }
+    ensures none { IsNone result → MAX_PAGE < pages + 44 * sessions }
 {
     let left = MAX_PAGE - pages;
     if left < LEAST_OF_SESSION * sessions {

@@ -2,6 +2,8 @@
 use Rattle.std.specs.Prelude.{◌≡◌, ◌⊎◌, ℕ, List, All, IsTrue, Some, ⊤}
 use Rattle.std.specs.Arc.{arc_value}
 use Rattle.blink_batch.specs.declared.Entry.{Entry}
+use Rattle.blink_grow.specs.declared.error.GrowError.{GrowError}
+use Rattle.blink_grow.specs.declared.error.GrowError.TheVariants as grow
 use Rattle.blink_grow.specs.declared.growing.GrowingMap.{GrowingMap}
 use Rattle.blink_grow.specs.declared.growing.Session.{Session}
 use Rattle.blink_grow.specs.{IsClosedWith, IsSessionOf, is_fixed, opening_of, places_of}
@@ -39,8 +41,15 @@ pub record IsNewGrowing (entries : List Entry) (sessions : ℕ) (owner : Growing
   pub opened : opening_of (growing_in owner) ≡ entries
   pub places : places_of (growing_in owner) ≡ sessions
 
-abbrev pub IsOpenFault : GrowRefusal → Type 0
-IsOpenFault refusal = (refusal ≡ refused.OutOfMemory) ⊎ (refusal ≡ refused.TooLarge) ⊎ (refusal ≡ refused.Sessions)
+-- why a map isn't opened, where this says why `blink_grow` doesn't open one
+abbrev pub IsOpenFault : (GrowError → Type 0) → GrowRefusal → Type 0
+IsOpenFault why refusal = (refusal ≡ refused.OutOfMemory) ⊎ ((refusal ≡ refused.TooLarge) × why grow.TooLarge) ⊎ ((refusal ≡ refused.Sessions) × why grow.Sessions)
+
+-- the refusal that tells of this one
+abbrev pub open_fault_of : GrowError → GrowRefusal
+open_fault_of grow.Sessions = refused.Sessions
+open_fault_of grow.TooLarge = refused.TooLarge
+open_fault_of refusal = refused.OutOfMemory
 
 -- ---- one more handle
 

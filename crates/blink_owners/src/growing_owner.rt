@@ -1,9 +1,9 @@
 //! What the box of a growing map's handle holds: an owner of the map, or what a close has left of it.
-ghost use Rattle.std.specs.Prelude.{◌≡◌, ◌↔◌, All, IfErr, IfOk, IsErrOf, IsFalse, OnErr};
+ghost use Rattle.std.specs.Prelude.{◌≡◌, ◌↔◌, All, IfErr, IfOk, IsErrOf, IsFalse, OnErr, length};
 ghost use Rattle.std.specs.Arc.{arc_value};
 ghost use Rattle.blink_index.specs.{map_of};
-ghost use Rattle.blink_grow.specs.{IsSessionOf, is_fixed};
-ghost use Rattle.blink_owners.specs.Growing.{CanClose, IsClosedGrowing, IsCloseFault, IsEndFault, IsJoinFault, IsNewGrowing, IsOpenFault, IsOpenFixed, IsOwnGrowing, IsOwnerOfSame, IsRenewFault, IsShareFault, Joins, growing_in};
+ghost use Rattle.blink_grow.specs.{IsSessionOf, WhyNotInRoom, WhyNotOpened, is_fixed};
+ghost use Rattle.blink_owners.specs.Growing.{CanClose, IsClosedGrowing, IsCloseFault, IsEndFault, IsJoinFault, IsNewGrowing, IsOpenFault, IsOpenFixed, IsOwnGrowing, IsOwnerOfSame, IsRenewFault, IsShareFault, Joins, growing_in, open_fault_of};
 ghost use Rattle.blink_owners.specs.GrowingSessions.{IsEmpty, IsOwnSession, in_growing};
 
 use crate::grow_refusal::GrowRefusal;
@@ -36,7 +36,8 @@ impl GrowingOwner {
         ensures opened { IfOk result (λ map. IsNewGrowing (map_of index.now) sessions map.value) }
         ensures its_own { IfOk result (λ map. IsOwnGrowing map.value) }
         ensures grows { IfOk result (λ map. IsFalse (is_fixed (growing_in map.value))) }
-        ensures refused { IfErr result IsOpenFault }
+        ensures refused { IfErr result
+            (IsOpenFault (WhyNotOpened (length index.now.pages) sessions)) }
     {
         match GrowingMap::open(alloc, index, sessions) {
             Ok((map, sessions)) => match GrowingOwner::boxed(alloc, map, sessions) {
@@ -57,7 +58,7 @@ impl GrowingOwner {
         ensures opened { IfOk result (λ map. IsNewGrowing (map_of index.now) room.sessions map.value) }
         ensures its_own { IfOk result (λ map. IsOwnGrowing map.value) }
         ensures room { IfOk result (λ map. is_fixed (growing_in map.value) ≡ fixed) }
-        ensures refused { IfErr result IsOpenFault }
+        ensures refused { IfErr result (IsOpenFault (WhyNotInRoom (length index.now.pages) room)) }
     {
         match GrowingMap::open_in(alloc, index, room, fixed) {
             Ok((map, sessions)) => match GrowingOwner::boxed(alloc, map, sessions) {
@@ -244,7 +245,7 @@ impl GrowingOwner {
 
 // Why a map isn't opened.
 fn open_fault(refusal: GrowError) -> GrowRefusal
-    ensures { IsOpenFault result }
+    ensures { result ≡ open_fault_of refusal }
 {
     match refusal {
         GrowError::Sessions => GrowRefusal::Sessions,
