@@ -262,7 +262,7 @@ impl Map {
         left
     }
 
-    /// Closes the map. The index that it returns has the entries that the map was opened with, after all changes. An [`Unfinished`] that
+    /// Closes the map. The index that it returns has the entries that the map was opened with, after all changes. An [`Unfinished`](crate::Unfinished) that
     /// was dropped and couldn't be ended has made its change, or never makes it. It is refused with [`Error::Missing`], if a session was
     /// leaked, as by [`std::mem::forget`]; with [`Error::OutOfMemory`]; and with [`Error::TooLarge`] only where such an operation was lost,
     /// and the entries need more pages than there are numbers. Each gives the map back with all its entries, and it can be closed again;
