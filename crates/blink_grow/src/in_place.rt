@@ -52,7 +52,8 @@ impl GrowingMap {
         requires taken { HasOwnSlot slot seat.old.me }
         ensures same { seat.new.table_id ≡ seat.old.table_id }
         ensures idle { IsIdleAgain slot seat.old.me seat.new.me }
-        ensures report { IsReport (opening_of self.now) (own_of seat.old.me.0).seen (own_of seat.new.me.0).seen
+        ensures report { IsReport (opening_of self.now)
+            (own_of seat.old.me.0).seen (own_of seat.new.me.0).seen
             lo (stop_of hi result.next) (take result.filled into.new) }
         ensures stopped { IfSome result.next (StoppedFull lo hi (length into.old) result.filled) }
         ensures filled { result.filled ≤ length into.old }
@@ -81,7 +82,8 @@ impl GrowingMap {
         requires taken { HasOwnSlot slot seat.old.me }
         ensures same { seat.new.table_id ≡ seat.old.table_id }
         ensures idle { IsIdleAgain slot seat.old.me seat.new.me }
-        ensures report { IsReportBack (opening_of self.now) (own_of seat.old.me.0).seen (own_of seat.new.me.0).seen
+        ensures report { IsReportBack (opening_of self.now)
+            (own_of seat.old.me.0).seen (own_of seat.new.me.0).seen
             (start_of lo result.next) hi (take result.filled into.new) }
         ensures stopped { IfSome result.next (StoppedFull lo hi (length into.old) result.filled) }
         ensures filled { result.filled ≤ length into.old }

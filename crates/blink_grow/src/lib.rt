@@ -41,3 +41,4 @@ pub use error::GrowError;
 pub use growing::{GrowingMap, Session, Unclosed};
 pub use held::{Held, PendingHeld, StoppedHeld};
 pub use places::Places;
+pub use waiting::RENEWALS;

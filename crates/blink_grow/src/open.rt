@@ -4,8 +4,8 @@ ghost use Rattle.std.specs.Arc.{arc_value};
 ghost use Rattle.blink_index.specs.{map_of};
 ghost use Rattle.blink_map.specs.{opening_of as opening_of_map, places_of as places_of_map};
 ghost use Rattle.blink_grow.specs.Laid.{AreFirst, AreLaid};
-ghost use Rattle.blink_grow.specs.Opening.{AreFirstSessions, WhyNotInRoom, WhyNotOpened, dealer};
-ghost use Rattle.blink_grow.specs.declared.error.GrowError.TheVariants.{OutOfMemory};
+ghost use Rattle.blink_grow.specs.Opening.{AreFirstSessions, HasBadSessions, WhyNotInRoom, WhyNotOpened, dealer};
+ghost use Rattle.blink_grow.specs.declared.error.GrowError.TheVariants.{OutOfMemory, Sessions};
 ghost use Rattle.blink_grow.specs.Sessions.{IsSessionOf, is_fixed, opening_of, places_of};
 
 use crate::error::GrowError;
@@ -35,6 +35,7 @@ impl GrowingMap {
         ensures dealt { IfOk result (λ opened. AreFirstSessions opened.0 opened.1.items) }
         ensures its_own { IfOk result (λ opened. All (IsSessionOf opened.0) opened.1.items) }
         ensures grows { IfOk result (λ opened. IsFalse (is_fixed opened.0)) }
+        ensures sessions { IfErr result (λ refusal. refusal ≡ Sessions → HasBadSessions sessions) }
     {
         match Index::new(alloc, MAX_FAN as u8) {
             Ok(index) => GrowingMap::open(alloc, &index, sessions),

@@ -1,8 +1,8 @@
 //! How often calls of a growing map try before they give up. None decides what a call answers, but whether it refuses with `Busy`.
 
-// How often a change renews the map. Once is enough, unless other sessions use up all the new room before the change is made. Each time
-// costs a copy of all entries.
-pub(crate) const RENEWALS: u32 = 8;
+/// How often a change renews the map at most. Once is enough, unless other sessions use up all the new room before the change is made. Each
+/// time costs a copy of all entries.
+pub const RENEWALS: u32 = 8;
 
 // How often a session is looked for: so many times in one try, in so many tries, at least one.
 #[derive(Clone, Copy)]

@@ -8,12 +8,9 @@ use crate::grow_refusal::GrowRefusal;
 use crate::raw::{REMOVED, RawAnswer, RawScanned, RawStock, RawTaken};
 use crate::shared_growing::SharedGrowing;
 use blink_batch::{Entry, Op};
-use blink_grow::{GrowError, Held, PendingHeld, Session, StoppedHeld};
+use blink_grow::{GrowError, Held, PendingHeld, RENEWALS, Session, StoppedHeld};
 use std::alloc::Global;
 use std::sync::Arc;
-
-// How often a change renews the map. Once is enough, unless other sessions use up all the new room before the change is made.
-const RENEWALS: u32 = 8;
 
 /// A session with an owner of its map, so that its thread needs nothing else. Between calls it has one of three: the free session, the
 /// held session, or its operation. They have a field each, so that a call moves no more than it works on: a held session is several times
