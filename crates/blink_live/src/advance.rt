@@ -153,9 +153,12 @@ impl Live {
         }
     }
 
-    // Begins an operation that changes the tree, on one of the pass's keys. It takes the next of the pass's rows and page
-    // numbers.
-    fn begin(&self, pass: Pass, op: Op) -> Result<Pending, (Pass, PassError)>
+    /// Begins an operation that changes the tree, on one of the pass's keys: what `change` does, with no wait. It takes the next of
+    /// the pass's rows and page numbers. The call reads the tree down to the key's leaf. It takes no memory, waits for nobody, and
+    /// returns. The operation goes on by `advance`.
+    ///
+    /// The call refuses as `change` does, and hands back the pass, which is as it was. Then it reads nothing.
+    pub fn begin(&self, pass: Pass, op: Op) -> Result<Pending, (Pass, PassError)>
         requires its_own { IsPassOf self.now pass }
         requires updates { IsUpdate op }
         requires fits { FitsWords op }

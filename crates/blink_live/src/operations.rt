@@ -1,4 +1,5 @@
-//! The operations of a pass on its own keys: find, insert, delete, replace, exchange and delete_exact.
+//! The operations of a pass on its own keys: find, insert, delete, replace, exchange and delete_exact, and change, which has the last five by
+//! the operation.
 ghost use Rattle.std.specs.Prelude.{◌≡◌, ◌≢◌, ◌↔◌, IsTrue, IfErr, IfOk, OnErr, OnOk, IsErrOf, Contains, None};
 ghost use mathlib.Core.List.{IsPrefix};
 ghost use Rattle.blink_batch.specs.{answer_at, answer_of, key_of, FitsWords};
@@ -228,9 +229,13 @@ impl Live {
         }
     }
 
-    // Runs an operation that changes the tree, on one of the pass's keys. It uses one of the changes of its kind that the pass
-    // has left.
-    fn change<R: Wait>(&self, rt: &R, pass: &mut Pass, op: Op) -> Result<Answer, PassError>
+    /// Runs an operation that changes the tree, on one of the pass's keys: what `insert`, `delete`, `replace`, `exchange` and
+    /// `delete_exact` do, by the operation. It uses one of the changes of its kind that the pass has left. It takes no memory, and
+    /// waits as they do.
+    ///
+    /// The call refuses with `NotYours` for every key that isn't one of the pass's; then with `Spent`, if the pass has no change of
+    /// the operation's kind left. A refused call changes nothing and reads nothing.
+    pub fn change<R: Wait>(&self, rt: &R, pass: &mut Pass, op: Op) -> Result<Answer, PassError>
         requires its_own { IsPassOf self.now pass.old }
         requires updates { IsUpdate op }
         requires fits { FitsWords op }

@@ -117,7 +117,7 @@ impl Live {
         let mut link = None;
         let few = into.len() <= MAX_FAN;
         while filled < into.len() {
-            let alone = few && filled == 0;
+            let alone = few && from == lo;
             let (run, right) = self.scan_leaf(seat, from, hi, &mut into[filled..], alone, link);
             filled += run.filled;
             link = right;

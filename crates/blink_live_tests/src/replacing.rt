@@ -1,7 +1,7 @@
 //! Replacements and exchanges with passes.
 use crate::indexes::Look::Dump;
 use crate::shared::Meeting::Tells;
-use crate::steps::Step::{Call, Glance};
+use crate::steps::Step::{Call, Change, Glance};
 use crate::story::Act::{Deal, Meet, Run, Take};
 use crate::story::{End, Story, play};
 use crate::works::Work;
@@ -71,10 +71,10 @@ const FOUR_EXCHANGES: Story = Story {
                 Call(Op::Exchange(7, 70, 71), Err(PassError::NotYours)),
                 Call(Op::Exchange(5, 50, 51), Ok(Answer::Replaced(50))),
                 Call(Op::Exchange(5, 50, 52), Ok(Answer::Exists(51))),
-                Call(Op::Exchange(6, 60, 61), Ok(Answer::Absent)),
-                Call(Op::Exchange(5, 51, 51), Ok(Answer::Replaced(51))),
+                Change(6, 60, 61, Ok(Answer::Absent)),
+                Change(5, 51, 51, Ok(Answer::Replaced(51))),
                 Call(Op::Exchange(5, 51, 52), Err(PassError::Spent)),
-                Call(Op::Exchange(7, 70, 71), Err(PassError::NotYours)),
+                Change(7, 70, 71, Err(PassError::NotYours)),
                 Glance(5, Some(51)),
             ],
         ),

@@ -219,12 +219,12 @@ fn a_pass_lost_under_way_leaves_no_latch(rt: HostRuntime) {
 
 // ---- several threads
 
-// Begins the insertion of the key, with ten times the key.
+// Begins the insertion of the key, with ten times the key, by the call that takes the operation.
 fn begin_insertion(rt: &impl Abort, live: &Live, pass: Pass, key: u64) -> Pending
     requires { IsPassOf live.now pass }
     ensures { IsPendingOf live.now result }
 {
-    begin(live, pass, Op::Insert(key, key.wrapping_mul(10)))
+    live.begin(pass, Op::Insert(key, key.wrapping_mul(10)))
         .ok()
         .expect(rt, "refused")
 }

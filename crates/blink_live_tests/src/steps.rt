@@ -10,6 +10,8 @@ use std::sync::Wait;
 #[derive(Clone, Copy)]
 pub(crate) enum Step {
     Call(Op, Result<Answer, PassError>),
+    // An exchange of the expected pointer of a key for another one, by the call that takes the operation.
+    Change(u64, u64, u64, Result<Answer, PassError>),
     Glance(u64, Option<u64>),
     // A glance at the first number gives a pointer from the second to the third.
     GlanceBetween(u64, u64, u64),
@@ -45,6 +47,10 @@ pub(crate) fn take<R: Wait + Abort>(rt: &R, live: &Live, pass: &mut Pass, step: 
         Step::Call(op, expected) => {
             let given = call(rt, live, pass, op);
             assert!(rt; given == expected, "{op:?} gave {given:?}");
+        }
+        Step::Change(key, old, new, expected) => {
+            let given = live.change(rt, pass, Op::Exchange(key, old, new));
+            assert!(rt; given == expected, "a change of {key} gave {given:?}");
         }
         Step::Glance(key, expected) => {
             let given = look(live, pass, key);
