@@ -47,6 +47,32 @@ impl Map {
         ensures refused { IfErr result (λ refusal. (refusal ≡ MapError.Sessions)
             ⊎ ((refusal ≡ MapError.TooLarge) ⊎ (refusal ≡ MapError.OutOfMemory))) }
     {
+        let parts = room.sessions.max(1);
+        Map::open_in_parts(alloc, index, room, parts)
+    }
+
+    /// Opens a map as `open` does, where half of the rows are the sessions' in so many parts, however many sessions there are: for a
+    /// map with more sessions than are likely to be in use at a time. Where more sessions than parts make changes, one may find that the
+    /// others have drawn all. Each has memory for the numbers of the rows of its part.
+    ///
+    /// The call refuses as `open` does.
+    pub fn open_in_parts(
+        alloc: Global,
+        index: &Index,
+        room: Room,
+        parts: u32,
+    ) -> Result<(Map, Vec<Session>), MapError>
+        requires parts { 1 ≤ parts }
+        ensures opened { IfOk result (λ opened. IsOpenedWith index.now room opened.0) }
+        ensures dealt { IfOk result (λ opened. AreFirstSessions opened.0 opened.1.items) }
+        ensures its_own { IfOk result (λ opened. All (IsSessionOf opened.0) opened.1.items) }
+        ensures sessions { IsErrOf result MapError.Sessions
+            ↔ ((room.sessions ≡ 0) ⊎ (256 < room.sessions)) }
+        ensures too_large { IsErrOf result MapError.TooLarge
+            ↔ ((1 ≤ room.sessions) × (room.sessions ≤ 256) × IsTooLarge (length index.now.pages) room) }
+        ensures refused { IfErr result (λ refusal. (refusal ≡ MapError.Sessions)
+            ⊎ ((refusal ≡ MapError.TooLarge) ⊎ (refusal ≡ MapError.OutOfMemory))) }
+    {
         if room.sessions == 0 || room.sessions > MAX_SESSIONS {
             return Err(MapError::Sessions);
         }
@@ -61,7 +87,8 @@ impl Map {
         let Ok((live, mut host)) = open_common(alloc, index, extent) else {
             return Err(MapError::OutOfMemory);
         };
-        let Ok(sessions) = sessions(alloc, &live, &mut host, room.sessions, quota_of(&room)) else {
+        let quota = quota_of(room.rows, parts);
+        let Ok(sessions) = sessions(alloc, &live, &mut host, room.sessions, quota) else {
             return Err(MapError::OutOfMemory);
         };
         let stand = Stand {
@@ -74,11 +101,11 @@ impl Map {
     }
 }
 
-// The number of rows that each session has at most.
-fn quota_of(room: &Room) -> u32
-    requires some { 1 ≤ room.now.sessions }
+// The number of rows that each session has at most, if half of so many rows are theirs in so many parts.
+fn quota_of(rows: u32, parts: u32) -> u32
+    requires some { 1 ≤ parts }
 {
-    (room.rows / 2 / room.sessions).clamp(LEAST_ROWS, MOST_ROWS)
+    (rows / 2 / parts).clamp(LEAST_ROWS, MOST_ROWS)
 }
 
 // Deals the sessions of all places. None has a row or a page number yet. Its shelf has room for so many rows as the session may
