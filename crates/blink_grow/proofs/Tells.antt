@@ -1,5 +1,6 @@
 -- A seat with the sessions of two slots lets the one tell the other.
-use Rattle.std.proofs.Common.{◌≡◌, ◌≢◌, ℕ, inl, Bool, true, false, Option, Some, None, List, [], ◌∷◌, ◌++◌, length, refl, sym, ap, ◌∙◌, subst, eq-eqb, ne_eqb, arith}
+use Rattle.std.proofs.Common.{◌≡◌, ◌≢◌, ℕ, inl, Bool, true, false, Option, Some, None, List, [], ◌∷◌, ◌++◌, append-nil, length, refl, sym, ap, ◌∙◌, subst, eq-eqb, ne_eqb, arith}
+use Rattle.std.proofs.lemmas.Bool.{false≢true}
 use Rattle.std.specs.Prelude.{if◌then◌else◌, ◌==◌}
 use mathlib.Core.List.{IsPrefix}
 use lib.ListN.{get_elem?}
@@ -158,7 +159,7 @@ module _ (lower upper : ℕ) (me0 me1 me2 : SlotSeat) (low high : Current) (none
         front_none : front_of me3.0.taken ≡ []
         front_none = ap (λ (l : List Account). front_of l) taken_three
 
-        pub told_between : HasToldBetween lower upper upwards own_low own_high me0 me4
+        pub told_between : HasToldBetween lower upper upwards true own_low own_high me0 me4
         told_between = record {
           low_then = low_known;
           high_then = high_known;
@@ -170,10 +171,89 @@ module _ (lower upper : ℕ) (me0 me1 me2 : SlotSeat) (low high : Current) (none
           none_out = ap (λ (m : SlotSeat). m.1) is4 ∙ ap (λ (l : List (ℕ × Option Current)). rest l) out_three;
           low_more = continued t1.now.past lower own_low low low_then own_low_is low_more;
           high_more = continued t1.now.past upper own_high high high_then own_high_is high_more;
-          low_authors = authors_of me0.0.slots lower t1.now low_then me0.0.first t1.is_generation (current t1.now lower low low_then t1.its low_more);
-          high_authors = authors_of me0.0.slots upper t1.now high_then me0.0.first t1.is_generation (current t1.now upper high high_then high_here high_more);
-          told = told_then upwards told;
+          low_authors = λ _. authors_of me0.0.slots lower t1.now low_then me0.0.first t1.is_generation (current t1.now lower low low_then t1.its low_more);
+          high_authors = λ _. authors_of me0.0.slots upper t1.now high_then me0.0.first t1.is_generation (current t1.now upper high high_then high_here high_more);
+          told = λ _. told_then upwards told;
         }
+
+-- ---- the one isn't told
+
+knows_still : (known : Known) → IsContinued known known
+knows_still known = record { saw = ([], append-nil known.seen); made = refl }
+
+-- the seat is as it was
+pub none_told : (lower upper : ℕ) (upwards : Bool) (low high : Known) (me after : SlotSeat) → after ≡ me → IsIdleWith lower upper low high me → HasToldBetween lower upper upwards false low high me after
+none_told lower upper upwards low high me after same idle = record {
+  low_then = low;
+  high_then = high;
+  accounts = ap (λ (m : SlotSeat). m.0.accounts) same ∙ sym (ap (with_known lower low) idle.high_once ∙ idle.low_once);
+  same_first = ap (λ (m : SlotSeat). m.0.first) same;
+  same_slots = ap (λ (m : SlotSeat). m.0.slots) same;
+  none_now = ap (λ (m : SlotSeat). m.0.now) same ∙ idle.none_now;
+  none_taken = ap (λ (m : SlotSeat). m.0.taken) same ∙ idle.none_taken;
+  none_out = ap (λ (m : SlotSeat). m.1) same ∙ idle.none_out;
+  low_more = knows_still low;
+  high_more = knows_still high;
+  low_authors = λ knows. knows;
+  high_authors = λ knows. knows;
+  told = λ done. absurd (false≢true done);
+}
+
+-- the seat has taken one slot, and gives it back
+module _ (slot : ℕ) (me0 me1 : SlotSeat) (held : Current) (none_taken : me0.0.taken ≡ []) (t : Taken slot held None me0 me1) where
+  abbrev known_there : Known
+  known_there = known_of t.now.past slot held
+
+  only_taken : me1.0.taken ≡ (slot, known_there) ∷ []
+  only_taken = ap (λ (m : SlotSeat). m.0.taken) t.is ∙ ap (λ (l : List Account). l ++ (slot, known_there) ∷ []) none_taken
+
+  is_out : me1.1 ≡ (slot, None) ∷ me0.1
+  is_out = ap (λ (m : SlotSeat). m.1) t.is
+
+  now_then : me1.0.now ≡ Some t.now
+  now_then = ap (λ (m : SlotSeat). m.0.now) t.is
+
+  pub can_give_only : CanGive slot me1 held
+  can_give_only = record {
+    level = 0;
+    known = known_there;
+    now = t.now;
+    last = ap (λ (l : List Account). length l) only_taken;
+    taken = ap (λ (l : List Account). get_elem? l 0) only_taken;
+    is_now = now_then;
+    its = t.its;
+    saw = ([], append-nil known_there.seen);
+    made = inl refl;
+    out = is_out ∙ (λ i. (slot, None) ∷ sym (ap (λ (l : List (ℕ × Option Current)). rest l) is_out) i);
+  }
+
+  -- of two sessions the lower one was taken
+  module _ (upper : ℕ) (upwards : Bool) (low high : Known) (idle : IsIdleWith slot upper low high me0) (me2 : SlotSeat) (is : me2 ≡ (has_given me1.0 slot (known_of (past_of me1.0.now) slot held), rest me1.1)) where
+    knows_it : known_of (past_of me1.0.now) slot held ≡ known_there
+    knows_it = ap (λ (n : Option Generation). known_of (past_of n) slot held) now_then
+
+    accounts_back : me2.0.accounts ≡ with_known slot known_there me0.0.accounts
+    accounts_back = ap (λ (m : SlotSeat). m.0.accounts) is ∙ (ap (λ (k : Known). with_known slot k me1.0.accounts) knows_it ∙ ap (λ (m : SlotSeat). with_known slot known_there m.0.accounts) t.is)
+
+    front_empty : front_of me1.0.taken ≡ []
+    front_empty = ap (λ (l : List Account). front_of l) only_taken
+
+    pub given_back_untold : HasToldBetween slot upper upwards false low high me0 me2
+    given_back_untold = record {
+      low_then = known_there;
+      high_then = high;
+      accounts = accounts_back ∙ ap (with_known slot known_there) (sym idle.high_once);
+      same_first = ap (λ (m : SlotSeat). m.0.first) is ∙ ap (λ (m : SlotSeat). m.0.first) t.is;
+      same_slots = ap (λ (m : SlotSeat). m.0.slots) is ∙ ap (λ (m : SlotSeat). m.0.slots) t.is;
+      none_now = ap (λ (m : SlotSeat). m.0.now) is ∙ ap (λ (l : List Account). while_some l me1.0.now) front_empty;
+      none_taken = ap (λ (m : SlotSeat). m.0.taken) is ∙ front_empty;
+      none_out = ap (λ (m : SlotSeat). m.1) is ∙ (ap (λ (l : List (ℕ × Option Current)). rest l) is_out ∙ idle.none_out);
+      low_more = t.own idle.i low idle.low_there;
+      high_more = knows_still high;
+      low_authors = λ _. authors_of me0.0.slots slot t.now held me0.0.first t.is_generation t.its;
+      high_authors = λ knows. knows;
+      told = λ done. absurd (false≢true done);
+    }
 
 -- ---- the accounts of both
 
@@ -198,7 +278,13 @@ both_from_lower to from there here there_then here_then differ = ap (with_known 
 pub both_to_lower : (to from : ℕ) (there here there_then here_then : Known) → to ≢ from → with_known to there_then (with_known from here_then (two to from there here)) ≡ two to from there_then here_then
 both_to_lower to from there here there_then here_then differ = ap (with_known to there_then) (with_second to from there here here_then differ) ∙ with_first to from there here_then there_then differ
 
--- ---- who has both has them in either order
+-- ---- who has both has them in either order, and each once
+
+knows_first : (to from : ℕ) (theirs own : Known) (me : SlotSeat) → HasBoth from to own theirs me → with_known to theirs me.0.accounts ≡ me.0.accounts
+knows_first to from theirs own me has = ap (with_known to theirs) has.accounts ∙ (with_first to from theirs own theirs has.differ ∙ sym has.accounts)
+
+knows_second : (to from : ℕ) (theirs own : Known) (me : SlotSeat) → HasBoth from to own theirs me → with_known from own me.0.accounts ≡ me.0.accounts
+knows_second to from theirs own me has = ap (with_known from own) has.accounts ∙ (with_second to from theirs own own has.differ ∙ sym has.accounts)
 
 pub idle_upwards : (from to : ℕ) (own theirs : Known) (me : SlotSeat) → HasBoth from to own theirs me → IsIdleWith from to own theirs me
 idle_upwards from to own theirs me has = record {
@@ -206,6 +292,8 @@ idle_upwards from to own theirs me has = record {
   j = 0;
   low_there = ap (λ (l : List Account). get_elem? l 1) has.accounts;
   high_there = ap (λ (l : List Account). get_elem? l 0) has.accounts;
+  low_once = knows_second to from theirs own me has;
+  high_once = knows_first to from theirs own me has;
   none_now = has.none_now;
   none_taken = has.none_taken;
   none_out = has.none_out;
@@ -217,13 +305,15 @@ idle_downwards from to own theirs me has = record {
   j = 1;
   low_there = ap (λ (l : List Account). get_elem? l 0) has.accounts;
   high_there = ap (λ (l : List Account). get_elem? l 1) has.accounts;
+  low_once = knows_first to from theirs own me has;
+  high_once = knows_second to from theirs own me has;
   none_now = has.none_now;
   none_taken = has.none_taken;
   none_out = has.none_out;
 }
 
-pub told_upwards : (from to : ℕ) (own theirs : Known) (old new : SlotSeat) → HasBoth from to own theirs old → HasToldBetween from to true own theirs old new → HasTold from to own theirs old new
-told_upwards from to own theirs old new has t = record {
+pub told_upwards : (from to : ℕ) (done : Bool) (own theirs : Known) (old new : SlotSeat) → HasBoth from to own theirs old → HasToldBetween from to true done own theirs old new → HasTold from to done own theirs old new
+told_upwards from to done own theirs old new has t = record {
   own_then = t.low_then;
   theirs_then = t.high_then;
   both = record {
@@ -242,8 +332,8 @@ told_upwards from to own theirs old new has t = record {
   told = t.told;
 }
 
-pub told_downwards : (from to : ℕ) (own theirs : Known) (old new : SlotSeat) → HasBoth from to own theirs old → HasToldBetween to from false theirs own old new → HasTold from to own theirs old new
-told_downwards from to own theirs old new has t = record {
+pub told_downwards : (from to : ℕ) (done : Bool) (own theirs : Known) (old new : SlotSeat) → HasBoth from to own theirs old → HasToldBetween to from false done theirs own old new → HasTold from to done own theirs old new
+told_downwards from to done own theirs old new has t = record {
   own_then = t.high_then;
   theirs_then = t.low_then;
   both = record {
@@ -301,16 +391,19 @@ knows_alone slots slot known me is same knows =
       all = subst (λ (n : ℕ). HaveAuthors n (own_of me.0).seen) (sym same) (subst (λ (k : Known). HaveAuthors slots k.seen) (sym own) knows.all);
     }
 
-pub told_seat : (from to : ℕ) (old other joined compared later new told : SlotSeat) → joined ≡ (together old.0 other.0, old.1) → compared ≡ joined → HasTold from to (own_of old.0) (own_of other.0) compared later → new ≡ (without_first later.0, later.1) → told ≡ (first_alone later.0, [])
-    → HasToldSeat from to old other new told
-told_seat from to old other joined compared later new told is same t left right =
+pub told_seat : (from to : ℕ) (done : Bool) (old other joined compared later new told : SlotSeat) → joined ≡ (together old.0 other.0, old.1) → compared ≡ joined → HasTold from to done (own_of old.0) (own_of other.0) compared later → new ≡ (without_first later.0, later.1) → told ≡ (first_alone later.0, [])
+    → KnowsAuthorsOf old.0.slots from (own_of old.0) → KnowsAuthorsOf old.0.slots to (own_of other.0) → HasToldSeat from to done old other new told
+told_seat from to done old other joined compared later new told is same t left right knows other_knows =
     let has = t.both in
     let new_accounts : new.0.accounts ≡ (from, t.own_then) ∷ [] = ap (λ (m : SlotSeat). m.0.accounts) left ∙ ap (λ (l : List Account). behind_first l) has.accounts in
     let told_accounts : told.0.accounts ≡ (to, t.theirs_then) ∷ [] = ap (λ (m : SlotSeat). m.0.accounts) right ∙ ap (λ (l : List Account). first_in l) has.accounts in
     let first : later.0.first ≡ old.0.first = t.same_first ∙ (ap (λ (m : SlotSeat). m.0.first) same ∙ ap (λ (m : SlotSeat). m.0.first) is) in
-    let slots : later.0.slots ≡ old.0.slots = t.same_slots ∙ (ap (λ (m : SlotSeat). m.0.slots) same ∙ ap (λ (m : SlotSeat). m.0.slots) is) in
+    let before : compared.0.slots ≡ old.0.slots = ap (λ (m : SlotSeat). m.0.slots) same ∙ ap (λ (m : SlotSeat). m.0.slots) is in
+    let slots : later.0.slots ≡ old.0.slots = t.same_slots ∙ before in
     let new_slots : new.0.slots ≡ compared.0.slots = ap (λ (m : SlotSeat). m.0.slots) left ∙ t.same_slots in
     let told_slots : told.0.slots ≡ compared.0.slots = ap (λ (m : SlotSeat). m.0.slots) right ∙ t.same_slots in
+    let then_knows = t.own_authors (subst (λ (n : ℕ). KnowsAuthorsOf n from (own_of old.0)) (sym before) knows) in
+    let then_theirs = t.theirs_authors (subst (λ (n : ℕ). KnowsAuthorsOf n to (own_of other.0)) (sym before) other_knows) in
     record {
       idle = idle_alone from t.own_then new new_accounts (ap (λ (m : SlotSeat). m.0.now) left ∙ has.none_now) (ap (λ (m : SlotSeat). m.0.taken) left ∙ has.none_taken) (ap (λ (m : SlotSeat). m.1) left ∙ has.none_out);
       told_idle = idle_alone to t.theirs_then told told_accounts (ap (λ (m : SlotSeat). m.0.now) right) (ap (λ (m : SlotSeat). m.0.taken) right) (ap (λ (m : SlotSeat). m.1) right);
@@ -318,7 +411,7 @@ told_seat from to old other joined compared later new told is same t left right 
       same_slots = (ap (λ (m : SlotSeat). m.0.slots) left ∙ slots, ap (λ (m : SlotSeat). m.0.slots) right ∙ slots);
       more = subst (IsContinued (own_of old.0)) (sym (alone_again from t.own_then new new_accounts)) t.own_more;
       told_more = subst (IsContinued (own_of other.0)) (sym (alone_again to t.theirs_then told told_accounts)) t.theirs_more;
-      authors = knows_alone compared.0.slots from t.own_then new new_accounts new_slots t.own_authors;
-      told_authors = knows_alone compared.0.slots to t.theirs_then told told_accounts told_slots t.theirs_authors;
-      hears = subst (λ (k : Known). IsPrefix (own_of old.0).seen k.seen) (sym (alone_again to t.theirs_then told told_accounts)) t.told;
+      authors = knows_alone compared.0.slots from t.own_then new new_accounts new_slots then_knows;
+      told_authors = knows_alone compared.0.slots to t.theirs_then told told_accounts told_slots then_theirs;
+      hears = λ is_done. subst (λ (k : Known). IsPrefix (own_of old.0).seen k.seen) (sym (alone_again to t.theirs_then told told_accounts)) (t.told is_done);
     }

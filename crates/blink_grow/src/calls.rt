@@ -141,21 +141,26 @@ impl GrowingMap {
         }
     }
 
-    // Takes the session out of a slot for a search, and waits for it. It lets a renewal that gathers the sessions go first.
-    pub(crate) fn take<R: Wait>(
+    // Takes the session out of a slot; `None`, if it wasn't there at so many looks, at least one. It lets a renewal that gathers the sessions
+    // go first.
+    pub(crate) fn take_unless_gathering(
         &self,
-        rt: &R,
         seat: &mut Seat<Option<Current>, SlotView>,
         slot: usize,
-    ) -> Current
+        tries: u32,
+    ) -> Option<Current>
         requires its_own { seat.old.table_id ≡ self.now.table.shared.table_id }
         requires in_range { slot < seat.old.table_id.slots }
         requires some_slot { 0 < seat.old.me.0.slots }
         ensures same { seat.new.table_id ≡ seat.old.table_id }
-        ensures taken { Taken slot result None seat.old.me seat.new.me }
+        ensures taken { IfSome result (λ held. Taken slot held None seat.old.me seat.new.me) }
+        ensures lost { IfNone result (seat.new.me ≡ seat.old.me) }
     {
-        self.wait_for_gathering(rt);
-        self.take_at_once(rt, seat, slot)
+        if self.take_slot_unless(&self.gathering, seat, slot, tries) {
+            Some(self.take_out(seat, slot))
+        } else {
+            None
+        }
     }
 
     // Waits while a renewal gathers the sessions.

@@ -17,6 +17,7 @@ mod growing;
 mod held;
 mod hold;
 mod in_place;
+mod left;
 mod look;
 mod next;
 mod open;

@@ -1,20 +1,22 @@
 //! Telling another session what one has seen.
-ghost use Rattle.std.specs.Prelude.{◌≡◌, ◌<◌};
+ghost use Rattle.std.specs.Prelude.{◌≡◌, ◌<◌, IfErr, OnOk};
 ghost use mathlib.Core.List.{IsPrefix};
 ghost use Rattle.std.specs.Arc.{arc_value};
 ghost use Rattle.blink_grow.specs.declared.slots.Known.{Known};
 ghost use Rattle.blink_map.specs.{IsSessionOf as IsSessionIn};
-ghost use Rattle.blink_grow.specs.Own.{IsIdle};
+ghost use Rattle.blink_grow.specs.declared.error.GrowError.TheVariants.{Busy};
+ghost use Rattle.blink_grow.specs.Own.{IsIdle, own_of};
 ghost use Rattle.blink_grow.specs.Renewing.{MaySeeMore};
 ghost use Rattle.blink_grow.specs.Sessions.{IsSameBesideSeen, IsSessionOf, seen_by};
-ghost use Rattle.blink_grow.specs.Telling.{HasBoth, HasTold, HasToldBetween, HasToldSeat, IsIdleWith, IsTold};
+ghost use Rattle.blink_grow.specs.Telling.{HasBoth, HasTold, HasToldBetween, HasToldSeat, IsIdleWith, IsTold, KnowsAuthorsOf};
 
+use crate::error::GrowError;
 use crate::gather::hear;
 use crate::growing::{GrowingMap, Session};
 use crate::slots::{Compare, Current, PartWithFirst, PutTogether, SlotView};
 use atomic_table::Seat;
-use std::mem;
 use std::sync::Wait;
+use std::{mem, thread};
 
 impl GrowingMap {
     /// Tells session `to` what session `from` has seen: after the call `to` has seen all that `from` had seen, whatever maps the changes
@@ -26,24 +28,54 @@ impl GrowingMap {
         ensures to { IsSameBesideSeen to.old to.new }
         ensures from { IsSameBesideSeen from.old from.new }
     {
+        for _ in rt.forever() {
+            if let Ok(()) = self.try_tell(from, to, 1) {
+                return;
+            }
+            thread::yield_now();
+        }
+        unreachable!()
+    }
+
+    /// Tells session `to` what session `from` has seen, as `tell` does, and waits for nobody. It looks for each of the two sessions `tries`
+    /// times, at least once, and lets a renewal that has begun go first. The call takes no memory, and returns.
+    ///
+    /// The call refuses with `Busy`, if the map was renewed, or was about to be, at each look for one of them. Then `to` wasn't told. Both
+    /// sessions are as they were, though they may have seen more.
+    pub fn try_tell(
+        &self,
+        from: &mut Session,
+        to: &mut Session,
+        tries: u32,
+    ) -> Result<(), GrowError>
+        requires from_its_own { IsSessionOf self.now from.old }
+        requires to_its_own { IsSessionOf self.now to.old }
+        ensures told { OnOk result (IsPrefix (seen_by from.old) (seen_by to.new)) }
+        ensures to { IsSameBesideSeen to.old to.new }
+        ensures from { IsSameBesideSeen from.old from.new }
+        ensures refused { IfErr result (λ refusal. refusal ≡ Busy) }
+    {
         let Session { seat, slot } = from;
         let Session {
             seat: other,
             slot: other_slot,
         } = to;
         let theirs = mem::replace(other, self.enter());
-        *other = self.tell_seat(rt, seat, *slot, theirs, *other_slot);
+        let (theirs, told) = self.tell_seat(seat, *slot, theirs, *other_slot, tries);
+        *other = theirs;
+        if told { Ok(()) } else { Err(GrowError::Busy) }
     }
 
-    // A session's seat takes another session too, tells it what its own has seen, and gives it a seat of its own again.
-    fn tell_seat<R: Wait>(
+    // A session's seat takes another session too, tells it what its own has seen, and gives it a seat of its own again. Returns whether it has
+    // told it.
+    fn tell_seat(
         &self,
-        rt: &R,
         seat: &mut Seat<Option<Current>, SlotView>,
         from: usize,
         other: Seat<Option<Current>, SlotView>,
         to: usize,
-    ) -> Seat<Option<Current>, SlotView>
+        tries: u32,
+    ) -> (Seat<Option<Current>, SlotView>, bool)
         requires its_own { seat.old.table_id ≡ self.now.table.shared.table_id }
         requires other_its_own { other.table_id ≡ self.now.table.shared.table_id }
         requires from { from < self.now.table.shared.table_id.slots }
@@ -51,24 +83,26 @@ impl GrowingMap {
         requires some_slot { 0 < seat.old.me.0.slots }
         requires idle { IsIdle from seat.old.me }
         requires other_idle { IsIdle to other.me }
+        requires authors { KnowsAuthorsOf seat.old.me.0.slots from (own_of seat.old.me.0) }
+        requires other_authors { KnowsAuthorsOf seat.old.me.0.slots to (own_of other.me.0) }
         ensures same { seat.new.table_id ≡ self.now.table.shared.table_id }
-        ensures told_same { result.table_id ≡ self.now.table.shared.table_id }
-        ensures told { HasToldSeat from to seat.old.me other.me seat.new.me result.me }
+        ensures told_same { result.0.table_id ≡ self.now.table.shared.table_id }
+        ensures told { HasToldSeat from to result.1 seat.old.me other.me seat.new.me result.0.me }
     {
         self.table.shared.join_seat::<PutTogether>(seat, other);
         self.table.shared.load::<Compare>(seat, 0);
-        self.tell_other(rt, seat, from, to);
-        self.table.shared.split_seat::<PartWithFirst>(seat)
+        let told = self.tell_other(seat, from, to, tries);
+        (self.table.shared.split_seat::<PartWithFirst>(seat), told)
     }
 
-    // The session of the one slot tells that of the other, by a seat that has both.
-    fn tell_other<R: Wait>(
+    // The session of the one slot tells that of the other, by a seat that has both. Returns whether it has told it.
+    fn tell_other(
         &self,
-        rt: &R,
         seat: &mut Seat<Option<Current>, SlotView>,
         from: usize,
         to: usize,
-    )
+        tries: u32,
+    ) -> bool
         requires its_own { seat.old.table_id ≡ self.now.table.shared.table_id }
         requires from { from < seat.old.table_id.slots }
         requires to { to < seat.old.table_id.slots }
@@ -76,25 +110,25 @@ impl GrowingMap {
         requires both { (own : Known) × (theirs : Known) × HasBoth from to own theirs seat.old.me }
         ensures same { seat.new.table_id ≡ seat.old.table_id }
         ensures told { (own theirs : Known) → HasBoth from to own theirs seat.old.me
-            → HasTold from to own theirs seat.old.me seat.new.me }
+            → HasTold from to result own theirs seat.old.me seat.new.me }
     {
         if from < to {
-            self.tell_between(rt, seat, from, to, true);
+            self.tell_between(seat, from, to, true, tries)
         } else {
-            self.tell_between(rt, seat, to, from, false);
+            self.tell_between(seat, to, from, false, tries)
         }
     }
 
     // Takes the sessions of two slots, the lower one first, as a renewal does, so that neither waits for what the other has. Then the one
-    // tells the other.
-    fn tell_between<R: Wait>(
+    // tells the other. Returns whether it has told it. If not, one of them wasn't in its slot at any look.
+    fn tell_between(
         &self,
-        rt: &R,
         seat: &mut Seat<Option<Current>, SlotView>,
         lower: usize,
         upper: usize,
         upwards: bool,
-    )
+        tries: u32,
+    ) -> bool
         requires its_own { seat.old.table_id ≡ self.now.table.shared.table_id }
         requires lower { lower < seat.old.table_id.slots }
         requires upper { upper < seat.old.table_id.slots }
@@ -103,13 +137,19 @@ impl GrowingMap {
             × IsIdleWith lower upper low high seat.old.me }
         ensures same { seat.new.table_id ≡ seat.old.table_id }
         ensures told { (low high : Known) → IsIdleWith lower upper low high seat.old.me
-            → HasToldBetween lower upper upwards low high seat.old.me seat.new.me }
+            → HasToldBetween lower upper upwards result low high seat.old.me seat.new.me }
     {
-        let low = self.take(rt, seat, lower);
-        let high = self.take_at_once(rt, seat, upper);
+        let Some(low) = self.take_unless_gathering(seat, lower, tries) else {
+            return false;
+        };
+        let Some(high) = self.take_unless_gathering(seat, upper, tries) else {
+            self.give(seat, lower, low);
+            return false;
+        };
         let (low, high) = tell_one(low, high, upwards);
         self.give(seat, upper, high);
         self.give(seat, lower, low);
+        true
     }
 }
 
