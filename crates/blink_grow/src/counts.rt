@@ -26,6 +26,13 @@ pub(crate) fn counted_by(changes: u64, outcome: &Result<Answer, Full>) -> u64
     }
 }
 
+// What is counted of sessions: the changes that they have made together in the current map, and how many of them have made any.
+#[derive(Clone, Copy)]
+pub(crate) struct Noted {
+    pub(crate) changes: u64,
+    pub(crate) busy: u32,
+}
+
 // How many changes are counted of these sessions together, up to the greatest number of 64 bits.
 pub(crate) fn count_all(sessions: &[Current]) -> u64
     ensures { result + 1 < 2 ^ 64 → result ≡ changes_of sessions.now }
@@ -35,4 +42,15 @@ pub(crate) fn count_all(sessions: &[Current]) -> u64
         sum = sum.saturating_add(held.changes);
     }
     sum
+}
+
+// How many of these sessions have made a change in the current map.
+pub(crate) fn count_busy(sessions: &[Current]) -> u32 {
+    let mut busy = 0u32;
+    for held in sessions {
+        if held.changes > 0 {
+            busy = busy.saturating_add(1);
+        }
+    }
+    busy
 }

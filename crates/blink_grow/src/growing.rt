@@ -28,8 +28,8 @@ pub struct GrowingMap {
     pub(crate) renewing: AtomicBool,
     // Whether a renewal gathers the sessions. It gets them before the next calls do, since searches wait too. No proof needs it.
     pub(crate) gathering: AtomicBool,
-    // About how many entries the map has had since it was opened or renewed last, with a few more for each session, and how many of them
-    // were removed. No proof needs them.
+    // About how many entries the map has had since it was opened or renewed last, with a few more for each session that it has room for, and
+    // how many of them were removed. No proof needs them.
     pub(crate) had: AtomicU64,
     pub(crate) removed: AtomicU64,
     // How many page numbers the current map has in all. No proof needs it.

@@ -45,24 +45,28 @@ pub(crate) fn index_of(alloc: Global, fan: u8, lead: &mut Current) -> Result<Ind
     }
 }
 
-// Opens a map over the index with so many sessions, and returns these with owners of the map: the one of the copier's place, and the others.
+// Opens a map over the index with so many sessions, and room for so many of them. Returns the sessions with owners of the map: the one of
+// the copier's place, and the others.
 pub(crate) fn open_next(
     alloc: Global,
     index: &Index,
     slots: u32,
+    parts: u32,
     copier: usize,
     number: u64,
 ) -> Result<(Current, Vec<Current>), GrowError>
     requires slots { slots ≤ 256 }
+    requires some_part { 1 ≤ parts }
+    requires parts { parts ≤ slots }
     requires in_range { copier < slots }
     ensures next { IfOk result
         (λ next. AreNext (map_of index.now) slots copier next.0 next.1.items) }
     ensures refused { IfErr result IsRefusal }
 {
-    let Some(room) = room_over(index.page_count(), slots) else {
+    let Some(room) = room_over(index.page_count(), slots, parts) else {
         return Err(GrowError::TooLarge);
     };
-    let (map, sessions) = match Map::open(alloc, index, room) {
+    let (map, sessions) = match Map::open_in_parts(alloc, index, room, parts) {
         Ok(opened) => opened,
         Err(MapError::TooLarge) => return Err(GrowError::TooLarge),
         Err(_) => return Err(GrowError::OutOfMemory),

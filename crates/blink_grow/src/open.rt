@@ -10,9 +10,9 @@ ghost use Rattle.blink_grow.specs.Sessions.{IsSessionOf, is_fixed, opening_of, p
 
 use crate::error::GrowError;
 use crate::growing::{GrowingMap, Session};
-use crate::room::room_over;
+use crate::room::{parts_for, room_over};
 use crate::slots::{Current, Origin, PartWithFirst, RuleOfSlots, SLOT_WORDS, SlotView};
-use crate::worn::had_at_first;
+use crate::worn::{FirstCounts, had_at_first};
 use atomic_table::{Seat, Table};
 use blink_index::Index;
 use blink_map::{Map, MapError, Room};
@@ -46,6 +46,9 @@ impl GrowingMap {
     /// Opens a map over the index's tree, with so many sessions, in the order of their places. The index stays as it is. Nobody has seen
     /// a change of the new map, or made one.
     ///
+    /// The map has room for the changes of four sessions, or of all, if there are fewer. When it is renewed, it has room for those that have
+    /// made changes since it was renewed last, and at least for so many as at first. So sessions that nobody uses take little memory.
+    ///
     /// The call refuses with `Sessions`, if there are to be none or more than 256; with `TooLarge`, if the index leaves too few of the
     /// 1,048,575 page numbers; and with `OutOfMemory`, if memory was refused.
     pub fn open(
@@ -63,8 +66,16 @@ impl GrowingMap {
         if sessions == 0 || sessions > MAX_SESSIONS {
             return Err(GrowError::Sessions);
         }
-        match room_over(index.page_count(), sessions) {
-            Some(room) => GrowingMap::open_in(alloc, index, room, false),
+        let parts = parts_for(0, sessions);
+        match room_over(index.page_count(), sessions, parts) {
+            Some(room) => {
+                let parted = Room {
+                    pages: room.pages,
+                    rows: room.rows,
+                    sessions: parts,
+                };
+                GrowingMap::open_in(alloc, index, parted, sessions, false)
+            }
             None => Err(GrowError::TooLarge),
         }
     }
@@ -86,7 +97,7 @@ impl GrowingMap {
         ensures grows { IfOk result (λ opened. IsFalse (is_fixed opened.0)) }
         ensures refused { IfErr result (WhyNotInRoom (length index.now.pages) room) }
     {
-        GrowingMap::open_in(alloc, index, room, false)
+        GrowingMap::open_for_all(alloc, index, room, false)
     }
 
     /// Opens a map as `open_with_room` does, whose room stays fixed: the map is never renewed, so no call waits for a copy. Where a change
@@ -103,11 +114,11 @@ impl GrowingMap {
         ensures fixed { IfOk result (λ opened. IsTrue (is_fixed opened.0)) }
         ensures refused { IfErr result (WhyNotInRoom (length index.now.pages) room) }
     {
-        GrowingMap::open_in(alloc, index, room, true)
+        GrowingMap::open_for_all(alloc, index, room, true)
     }
 
-    /// Opens a map as `open_fixed` does, if its room is to be fixed, and as `open_with_room` otherwise.
-    pub fn open_in(
+    // Opens a map with this room for all its sessions.
+    fn open_for_all(
         alloc: Global,
         index: &Index,
         room: Room,
@@ -120,8 +131,46 @@ impl GrowingMap {
         ensures room { IfOk result (λ opened. is_fixed opened.0 ≡ fixed) }
         ensures refused { IfErr result (WhyNotInRoom (length index.now.pages) room) }
     {
-        let numbers = u64::from(index.page_count()) + u64::from(room.pages);
-        let (map, first) = match Map::open(alloc, index, room) {
+        if room.sessions > MAX_SESSIONS {
+            return Err(GrowError::Sessions);
+        }
+        GrowingMap::open_in(alloc, index, room, room.sessions, fixed)
+    }
+
+    /// Opens a map with so many places as `open_fixed` does, if its room is to be fixed, and as `open_with_room` otherwise. The room is for
+    /// the changes of `room.sessions` sessions: half of its rows are the sessions' in so many parts. Where more sessions make changes, one may
+    /// find that the others have drawn all. Then a map that grows is renewed, and one whose room is fixed refuses the change with `Full`.
+    ///
+    /// The call refuses as `open_with_room` does.
+    pub fn open_in(
+        alloc: Global,
+        index: &Index,
+        room: Room,
+        places: u32,
+        fixed: bool,
+    ) -> Result<(GrowingMap, Vec<Session>), GrowError>
+        requires room { room.sessions ≤ places }
+        requires few { places ≤ 256 }
+        ensures opened { IfOk result (λ opened. opening_of opened.0 ≡ map_of index.now) }
+        ensures places { IfOk result (λ opened. places_of opened.0 ≡ places) }
+        ensures dealt { IfOk result (λ opened. AreFirstSessions opened.0 opened.1.items) }
+        ensures its_own { IfOk result (λ opened. All (IsSessionOf opened.0) opened.1.items) }
+        ensures room { IfOk result (λ opened. is_fixed opened.0 ≡ fixed) }
+        ensures refused { IfErr result (WhyNotInRoom (length index.now.pages) room) }
+    {
+        if room.sessions == 0 {
+            return Err(GrowError::Sessions);
+        }
+        let whole = Room {
+            pages: room.pages,
+            rows: room.rows,
+            sessions: places,
+        };
+        let counts = FirstCounts {
+            had: had_at_first(index.len(), room.sessions),
+            numbers: u64::from(index.page_count()) + u64::from(room.pages),
+        };
+        let (map, first) = match Map::open_in_parts(alloc, index, whole, room.sessions) {
             Ok(opened) => opened,
             Err(MapError::Sessions) => return Err(GrowError::Sessions),
             Err(MapError::TooLarge) => return Err(GrowError::TooLarge),
@@ -133,7 +182,7 @@ impl GrowingMap {
         let Ok(slots) = lay(alloc, &map, first) else {
             return Err(GrowError::OutOfMemory);
         };
-        let (map, mut seat) = table_of(alloc, index, slots, numbers, fixed)?;
+        let (map, mut seat) = table_of(alloc, index, slots, counts, fixed)?;
         let Ok(sessions) = map.deal(alloc, &mut seat) else {
             return Err(GrowError::OutOfMemory);
         };
@@ -159,12 +208,12 @@ impl GrowingMap {
     }
 }
 
-// The table over these slots, and the seat that has all sessions. The map in them has so many page numbers in all.
+// The table over these slots, and the seat that has all sessions. The map in them begins to count so.
 fn table_of(
     alloc: Global,
     index: &Index,
     slots: Vec<Option<Current>>,
-    numbers: u64,
+    counts: FirstCounts,
     fixed: bool,
 ) -> Result<(GrowingMap, Seat<Option<Current>, SlotView>), GrowError>
     requires some { 1 ≤ length slots.items }
@@ -197,9 +246,9 @@ fn table_of(
                 fixed,
                 renewing: AtomicBool::new(false),
                 gathering: AtomicBool::new(false),
-                had: AtomicU64::new(had_at_first(index.len(), count)),
+                had: AtomicU64::new(counts.had),
                 removed: AtomicU64::new(0),
-                numbers: AtomicU64::new(numbers),
+                numbers: AtomicU64::new(counts.numbers),
             },
             seat,
         )),

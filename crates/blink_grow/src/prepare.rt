@@ -6,23 +6,27 @@ ghost use Rattle.blink_map.specs.{IsSessionOf};
 ghost use Rattle.blink_grow.specs.Renewing.{AreEntriesSeen, AreNext, IsCopied, IsNoted, IsRefusal, IsRenewing, MaySeeMore};
 ghost use Rattle.blink_grow.specs.Sessions.{places_of};
 
-use crate::counts::count_all;
+use crate::counts::{Noted, count_all, count_busy};
 use crate::error::GrowError;
 use crate::growing::GrowingMap;
 use crate::next::{index_of, open_next};
+use crate::room::parts_for;
 use crate::slots::{Current, SlotView};
 use crate::waiting::{Patience, RENEWAL};
+use crate::worn::{FirstCounts, first_counts};
 use atomic_table::Seat;
 use blink_index::Index;
 use std::alloc::Global;
 use std::sync::atomic::Ordering;
 
-// An index of the entries, and sessions of a map that was opened over it: the one of the copier's place, and the others.
+// An index of the entries, and sessions of a map that was opened over it: the one of the copier's place, and the others. The map begins to
+// count so.
 #[derive(Drop)]
 pub(crate) struct Prepared {
     pub(crate) index: Index,
     pub(crate) next: Current,
     pub(crate) next_others: Vec<Current>,
+    pub(crate) counts: FirstCounts,
 }
 
 impl GrowingMap {
@@ -51,10 +55,11 @@ impl GrowingMap {
             return Err(GrowError::Busy);
         };
         self.gathering.store(false, Ordering::SeqCst);
-        let outcome = self.prepare(alloc, copier, lead);
+        let outcome = self.prepare(alloc, copier, lead, noted.busy);
         self.gathering.store(true, Ordering::SeqCst);
+        let changes = noted.changes;
         match outcome {
-            Ok(prepared) => self.gather_again(alloc, seat, copier, lead, others, prepared, noted),
+            Ok(prepared) => self.gather_again(alloc, seat, copier, lead, others, prepared, changes),
             Err(refusal) => Err(refusal),
         }
     }
@@ -68,29 +73,32 @@ impl GrowingMap {
         lead: &mut Current,
         others: &mut Vec<Current>,
         patience: Patience,
-    ) -> Option<u64>
+    ) -> Option<Noted>
         requires renewing { IsRenewing self.now seat.old copier lead.old others.old.items }
         requires alone { others.old.items ≡ [] }
         requires room { places_of self.now ≤ suc (vec_capacity others.old) }
         ensures renewing { IsRenewing self.now seat.new copier lead.new others.new.items }
         ensures alone { OnSome result (others.new.items ≡ []) }
         ensures room { places_of self.now ≤ suc (vec_capacity others.new) }
-        ensures noted { IfSome result (IsNoted (places_of self.now) copier lead.new) }
+        ensures noted { IfSome result
+            (λ noted. IsNoted (places_of self.now) copier lead.new noted.changes) }
     {
         if !self.gather(seat, copier, lead, others, patience) {
             return None;
         }
-        let noted = count_all(others);
+        let changes = count_all(others);
+        let busy = count_busy(others);
         self.give_others(seat, copier, lead, others);
-        Some(noted)
+        Some(Noted { changes, busy })
     }
 
-    // Makes an index of the entries by this session, and opens the next map over it.
+    // Makes an index of the entries by this session, and opens the next map over it. So many of the other sessions have made changes.
     pub(crate) fn prepare(
         &self,
         alloc: Global,
         copier: usize,
         lead: &mut Current,
+        busy: u32,
     ) -> Result<Prepared, GrowError>
         requires in_range { copier < places_of self.now }
         requires its_own { IsSessionOf (arc_value lead.old.map) lead.old.session }
@@ -105,8 +113,11 @@ impl GrowingMap {
             Err(refusal) => return Err(refusal),
         };
         let slots = self.table.slot_count() as u32;
-        match open_next(alloc, &index, slots, copier, lead.number.wrapping_add(1)) {
+        let parts = parts_for(busy, slots);
+        let number = lead.number.wrapping_add(1);
+        match open_next(alloc, &index, slots, parts, copier, number) {
             Ok((next, next_others)) => Ok(Prepared {
+                counts: first_counts(&index, parts),
                 index,
                 next,
                 next_others,
@@ -148,6 +159,6 @@ impl GrowingMap {
             return Ok(prepared);
         }
         drop(prepared);
-        self.prepare(alloc, copier, lead)
+        self.prepare(alloc, copier, lead, count_busy(others))
     }
 }

@@ -243,11 +243,12 @@ impl GrowingMap {
             index,
             next,
             next_others,
+            counts,
         } = prepared;
         tell_all(&mut lead, others);
         let next = self.switch(seat, next);
         self.give_all(seat, copier, next, next_others);
-        self.begin_count(&index);
+        self.begin_count(counts);
         (lead, index)
     }
 }

@@ -1,6 +1,6 @@
 //! Renewing a growing map from which many entries were removed. Emptied leaves stay in the current map, and a scan, or a look for its first
 //! or last entry, passes them. No clause speaks of it: a renewal keeps what the other calls promise.
-ghost use Rattle.std.specs.Prelude.{◌<◌};
+ghost use Rattle.std.specs.Prelude.{◌<◌, ◌≤◌};
 ghost use Rattle.blink_grow.specs.Sessions.{IsSessionOf, places_of};
 
 use crate::growing::{GrowingMap, Session};
@@ -21,19 +21,28 @@ const KEY_FACTOR: u64 = 0x9E37_79B9_7F4A_7C15;
 
 const COUNT_FACTOR: u64 = 0xD134_2543_DE82_EF95;
 
-// So many removals for each session are borne in a map of any size: a renewal opens a table with 640 rows for each, which is 0.4 MB.
+// So many removals for each session that the map has room for are borne in a map of any size: a renewal opens a table with 640 rows for
+// each, which is 0.4 MB.
 const BORNE_FOR_SESSION: u64 = 1_024;
+
+// What a map begins to count with: about how many entries it has had, with a few more for each session that it has room for, and how many
+// page numbers it has in all.
+#[derive(Clone, Copy)]
+pub(crate) struct FirstCounts {
+    pub(crate) had: u64,
+    pub(crate) numbers: u64,
+}
 
 impl GrowingMap {
     /// Renews the map where many of its leaves are empty: if more entries were removed since it was opened or renewed last than are left,
-    /// with 1,024 more for each session, and if the map uses more than twice the pages that so many need half full. Where keys come
-    /// and go in no order, few leaves are emptied, so the map stays. A change does all this by itself. After `start` and `advance` the
-    /// caller does it, once the session is released. The call waits for nobody. It looks `looks` times for each session that is in a call, or
-    /// held. Where the map can't be renewed for now, or needn't be, it stays as it is, and the count begins anew. So it is where the room
-    /// is fixed.
+    /// with 1,024 more for each session that the map has room for (`open`), and if the map uses more than twice the pages that so many
+    /// need half full. Where keys come and go in no order, few leaves are emptied, so the map stays. A change does all this by itself. After
+    /// `start` and `advance` the caller does it, once the session is released. The call waits for nobody. It looks `looks` times for each
+    /// session that is in a call, or held. Where the map can't be renewed for now, or needn't be, it stays as it is, and the count begins
+    /// anew. So it is where the room is fixed.
     ///
     /// So a look from the front, as `first`, passes a bounded number of emptied leaves: after each count the map uses at most four times
-    /// the pages that the entries left, and 1,024 for each session, would fill.
+    /// the pages that the entries left, and 1,024 for each session that the map has room for, would fill.
     ///
     /// What it costs is spread over the removals. A renewal copies the entries that are left, so no more than one for each removal.
     pub fn renew_if_worn(&self, alloc: Global, looks: u32) {
@@ -106,13 +115,10 @@ impl GrowingMap {
         }
     }
 
-    // Begins to count in a map that was opened over this index.
-    pub(crate) fn begin_count(&self, index: &Index) {
-        let slots = self.table.slot_count();
-        let numbers = numbers_over(index.page_count(), slots as u32);
-        self.numbers.store(numbers, Ordering::SeqCst);
-        let had = had_at_first(index.len(), slots);
-        self.had.store(had, Ordering::SeqCst);
+    // Begins to count in another map.
+    pub(crate) fn begin_count(&self, counts: FirstCounts) {
+        self.numbers.store(counts.numbers, Ordering::SeqCst);
+        self.had.store(counts.had, Ordering::SeqCst);
         self.removed.store(0, Ordering::SeqCst);
     }
 }
@@ -134,9 +140,19 @@ fn is_drawn(key: u64, count: u64) -> bool {
     (mixed ^ (mixed >> 32)).wrapping_mul(KEY_FACTOR) < u64::MAX / COUNTED
 }
 
-// What `had` begins with in a map that is opened with so many entries.
-pub(crate) fn had_at_first(entries: usize, slots: usize) -> u64 {
-    (slots as u64)
+// What a map begins with that is opened over this index in a renewal, with room for so many sessions.
+pub(crate) fn first_counts(index: &Index, parts: u32) -> FirstCounts
+    requires parts { parts ≤ 256 }
+{
+    FirstCounts {
+        had: had_at_first(index.len(), parts),
+        numbers: numbers_over(index.page_count(), parts),
+    }
+}
+
+// What `had` begins with in a map that is opened with so many entries, and room for so many sessions.
+pub(crate) fn had_at_first(entries: usize, parts: u32) -> u64 {
+    u64::from(parts)
         .saturating_mul(BORNE_FOR_SESSION)
         .saturating_add(entries as u64)
 }

@@ -15,13 +15,13 @@ pub table_of-requires-clause-some : goal.table_of-requires-clause-some
 table_of-requires-clause-some c =
     let opened = c.in-Ok.ensures in
     let width = c.in-Ok-lay.ensures.width ∙ (opened.dealt.width ∙ opened.opened.places) in
-    subst (λ (n : ℕ). 1 ≤ n) (sym width) (some_sessions c.args.room.sessions (λ bad. cc (opened.sessions.1 bad)))
+    subst (λ (n : ℕ). 1 ≤ n) (sym width) (some_sessions c.args.places (λ bad. cc (opened.sessions.1 bad)))
 
 pub table_of-requires-clause-few : goal.table_of-requires-clause-few
 table_of-requires-clause-few c =
     let opened = c.in-Ok.ensures in
     let width = c.in-Ok-lay.ensures.width ∙ (opened.dealt.width ∙ opened.opened.places) in
-    subst (λ (n : ℕ). n ≤ 256) (sym width) (few_sessions c.args.room.sessions (λ bad. cc (opened.sessions.1 bad)))
+    subst (λ (n : ℕ). n ≤ 256) (sym width) (few_sessions c.args.places (λ bad. cc (opened.sessions.1 bad)))
 
 pub table_of-requires-clause-laid : goal.table_of-requires-clause-laid
 table_of-requires-clause-laid c =
