@@ -12,6 +12,8 @@ mod held;
 #[cfg(test)]
 mod memory;
 #[cfg(test)]
+mod parts;
+#[cfg(test)]
 mod renewals;
 #[cfg(test)]
 mod room;
@@ -19,5 +21,7 @@ mod room;
 mod same;
 #[cfg(test)]
 mod shared;
+#[cfg(test)]
+mod telling;
 #[cfg(test)]
 mod threads;

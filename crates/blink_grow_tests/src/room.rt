@@ -176,3 +176,14 @@ fn a_room_that_no_map_has_is_refused(rt: HostRuntime) {
         same(&rt, &refusal, &Some(GrowError::TooLarge));
     }
 }
+
+#[test]
+fn a_map_tells_what_its_pool_has(rt: HostRuntime) {
+    let alloc = rt.alloc();
+    let Single { map, session } = given(&rt, with_fixed_room(&rt, alloc, 40, 400));
+    same(&rt, &map.try_room(0), &Ok((400, 40)));
+    let held = map.hold(&rt, session);
+    same(&rt, &map.try_room(3), &Err(GrowError::Busy));
+    let _session = map.release(held);
+    same(&rt, &map.try_room(1), &Ok((400, 40)));
+}
