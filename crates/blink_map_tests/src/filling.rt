@@ -1,10 +1,12 @@
 //! Maps that are filled to their last row and to their last page number.
+use crate::same::given;
 use crate::shared::Two;
 use crate::shared::Who::{One, Other};
 use crate::sights::Sight::{HasRoom, LacksRoom, PoolPages, PoolRows, Rows, Stock as Has};
 use crate::story::Act::{self, Call, InsertEach, Leave, ReplaceOften, See};
 use crate::story::{End, Story, play};
 use blink_batch::{Answer, Op};
+use blink_index::Index;
 use blink_map::{Full, Stock};
 use std::process::Abort;
 use std::sync::Wait;
@@ -83,6 +85,21 @@ const NINE_INSERTIONS: Story = Story {
 #[test]
 fn a_draw_loses_no_row(rt: HostRuntime) {
     play(&rt, rt.alloc(), &NINE_INSERTIONS);
+}
+
+// The same, where half of the rows are in one part, which either session may draw: so the first has 92 rows at most. A draw takes at most a
+// quarter of what the pool has left: 46 of 184 rows, and 34 of 138 with the ninth insertion.
+#[test]
+fn a_session_draws_no_more_than_a_part(rt: HostRuntime) {
+    let alloc = rt.alloc();
+    let index = given(&rt, Index::new(alloc, 4));
+    let mut two = Two::in_parts(&rt, alloc, &index, (200, 184), 1);
+    two.insert_each(&rt, (1, 9), 1);
+    two.see(&rt, PoolRows(138));
+    two.see(&rt, Rows(43));
+    two.call(&rt, One, Op::Insert(9, 9), Ok(Answer::Inserted));
+    two.see(&rt, PoolRows(104));
+    two.see(&rt, Rows(77));
 }
 
 // A page has 4 entries. The fifth insertion splits the leaf, which makes two pages more and keeps two rows. So fewer than the 44 rows

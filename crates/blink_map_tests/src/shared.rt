@@ -1,5 +1,5 @@
 //! A map with two sessions, whose calls have no condition: what is so of them is in the type.
-ghost use Rattle.std.specs.Prelude.{◌≡◌, IfOk};
+ghost use Rattle.std.specs.Prelude.{◌≡◌, ◌≤◌, IfOk};
 ghost use Rattle.blink_batch.specs.{FitsWords};
 ghost use Rattle.blink_map.specs.{IsSessionOf, IsUpdate, map_at};
 
@@ -63,13 +63,27 @@ impl Two {
     }
 
     pub(crate) fn over(rt: &impl Abort, alloc: Global, index: &Index, room: (u32, u32)) -> Two {
+        Two::in_parts(rt, alloc, index, room, 2)
+    }
+
+    // The same, where half of the rows are the sessions' in so many parts.
+    pub(crate) fn in_parts(
+        rt: &impl Abort,
+        alloc: Global,
+        index: &Index,
+        room: (u32, u32),
+        parts: u32,
+    ) -> Two
+        requires parts { 1 ≤ parts }
+    {
         let (pages, rows) = room;
         let room = Room {
             pages,
             rows,
             sessions: 2,
         };
-        let (map, mut sessions) = Map::open(alloc, index, room).expect(rt, "no map");
+        let opened = Map::open_in_parts(alloc, index, room, parts);
+        let (map, mut sessions) = opened.expect(rt, "no map");
         let places = Places::new(alloc, &map).expect(rt, "no places");
         places.leave_all(&mut sessions);
         let one = joined(rt, &map, &places);
