@@ -6,11 +6,11 @@
  * functions it is tested alone that memory is refused only where malloc or realloc gives none, that an operation gets on by
  * blink_pass_advance and its like, and that what is freed is free. What follows is what the caller keeps.
  *
- * Handles. blink_index, blink_reader, blink_table, blink_pass, blink_map, blink_session, blink_growing and blink_growing_session are
- * handles. A handle begins as {NULL}, and is then empty. A function with a parameter `out` takes the place of an empty handle, and fills it
- * if it returns BLINK_DONE. All other functions take a full one. A handle is freed once: by its free function, or, of a table, by its close
- * function. A close of a map leaves the handle, which blink_map_free or blink_growing_free frees. blink_index_share and
- * blink_reader_unshare, if they return BLINK_DONE, leave the handle empty that they take, and then it isn't freed.
+ * Handles. blink_index, blink_reader, blink_table, blink_pass, blink_map and blink_session are handles. A handle begins as {NULL}, and is
+ * then empty. A function with a parameter `out` takes the place of an empty handle, and fills it if it returns BLINK_DONE. All other
+ * functions take a full one. A handle is freed once: by its free function, or, of a table, by its close function. A close of a map leaves the
+ * handle, which blink_map_free frees. blink_index_share and blink_reader_unshare, if they return BLINK_DONE, leave the handle empty that they
+ * take, and then it isn't freed.
  *
  * Misuse. A call out of order is refused, and its comment says by which code: while an operation is under way (BLINK_PENDING) or none is
  * (BLINK_IDLE), by a pass that was given back (BLINK_RETURNED), by one of another table or a session of another map (BLINK_FOREIGN), and a
@@ -24,7 +24,7 @@
  * use a handle; one gives it to another by what orders memory between the two: a lock, a start or join of a thread, or an atomic that one
  * stores with release order, at least, and the other loads with acquire order. Different handles may be used by different threads at the
  * same time, also readers of one index; passes of one table, and the table itself; or sessions of one map, and the map itself. No call
- * waits for another thread, but those three, one that renews a growing map, and the inline functions at the end. None may be called from a
+ * waits for another thread, but those three, one that renews a map, and the inline functions at the end. None may be called from a
  * signal handler, or in a forked child of a process with threads. Tested: what a thread wrote before a call of a pass or a session that
  * stores a pointer is seen by whoever gets this pointer from a call of another one, by a find, a glance, a scan, a snapshot or a change. So
  * a pointer may be the address of a record, which isn't changed from then on but by what orders memory itself.
@@ -38,7 +38,7 @@
  *
  * Memory comes from malloc, realloc and free. A call that is refused for want of it leaves what was there as it was, except that
  * blink_table_close gives the table up, blink_index_apply has carried out the operations before, and a pass or a session may have seen
- * more after its snapshot, and one of a growing map after each call.
+ * more.
  */
 #ifndef BLINK_H
 #define BLINK_H
@@ -63,15 +63,13 @@ typedef struct { void *at; } blink_table;
 typedef struct { void *at; } blink_pass;
 typedef struct { void *at; } blink_map;
 typedef struct { void *at; } blink_session;
-typedef struct { void *at; } blink_growing;
-typedef struct { void *at; } blink_growing_session;
 
 /* A key with its record pointer. */
 typedef struct { uint64_t key, pointer; } blink_entry;
 
 /* An operation. A find and a deletion don't read the pointer. An exchange has a third number, for which there is no place here, so it
- * has functions of its own: blink_index_exchange, blink_pass_begin_exchange, blink_session_exchange and blink_growing_session_exchange. So
- * has a deletion of an expected pointer: blink_index_delete_exact and its like. */
+ * has functions of its own: blink_index_exchange, blink_pass_begin_exchange and blink_session_exchange. So has a deletion of an expected
+ * pointer: blink_index_delete_exact and its like. */
 typedef struct { uint64_t kind, key, pointer; } blink_operation;
 
 /* An answer. The pointer is 0 where the answer tells none. */
@@ -144,12 +142,12 @@ enum {
     BLINK_MAP_TOO_LARGE = 101,     /* the index's pages and the page numbers of the room are above 1,048,575 */
     BLINK_BAD_SESSIONS = 102,      /* there are to be no sessions, or more than 256 */
     BLINK_NO_SESSION = 103,          /* each place for a session was taken, or the map is closed */
-    BLINK_FULL = 105,              /* the session has too few rows or page numbers in all, and the map's pool too; or a growing map was to be
-                                    * renewed whose room is fixed */
+    BLINK_FULL = 105,              /* the map's room is fixed, and the session has too few rows or page numbers in all, and the pool too; or
+                                    * the map was to be renewed */
     BLINK_SESSION_MISSING = 106,   /* the handle of a session, or another handle of the map, isn't freed */
     BLINK_ROWS_BUSY = 107,         /* the session has enough rows and page numbers in all, but some rows are on their way back */
     BLINK_MAP_CLOSED = 108,        /* the map is closed, or a close of it has begun */
-    BLINK_RENEWING = 109           /* a growing map is being renewed, or can't be, since a session is held or in a call */
+    BLINK_RENEWING = 109           /* the map is being renewed, or can't be, since a session is held or in a call */
 };
 
 /* The greatest number of operations that run at once. */
@@ -160,7 +158,7 @@ enum {
  * yield is a call of the kernel. */
 #define BLINK_TRIES 100
 
-/* The most tries of a change of a growing map that waits: each time that the map couldn't be renewed it has ten times as many, up to these. */
+/* The most tries of a change of a map that waits: each time that the map couldn't be renewed it has ten times as many, up to these. */
 #define BLINK_MOST_TRIES 1000000
 
 /* The text of a code, in a few words without a full stop. A number that is no code has one too. */
@@ -494,7 +492,7 @@ int blink_pass_advance(blink_pass *pass, uint32_t tries, blink_answer *answer);
 /* Frees the handle. A pass that wasn't given back before is lost: blink_table_close is then refused with BLINK_MISSING. */
 void blink_pass_free(blink_pass pass);
 
-/* ---- The map: the index's entries, which threads change together at any key. ----
+/* ---- The map: entries that threads change together at any key. It grows. ----
  *
  * A thread joins a map, and has a session then. By its session it finds, inserts, deletes, replaces, exchanges and puts any key, and scans
  * ranges. There is one list of changes of all keys. Each call answers as on the entries after a part of the list, which goes on from
@@ -502,50 +500,75 @@ void blink_pass_free(blink_pass pass);
  * sees a change that it has seen. Tested: a call sees every change of a call that ended before it began. In the end every handle of
  * a session is freed, the map is closed to an index, and blink_map_free frees its handle.
  *
- * Only blink_map_open, blink_map_share, blink_map_join, blink_map_close and blink_session_snapshot take memory. Of one map's calls the
- * first four and blink_map_room use a handle of the map; those of sessions don't.
+ * Nobody tells a map how much room it is to have. It is one map after another: a change that finds no room renews it. All sessions are
+ * gathered, the entries are copied into another map with more room, and all go on there. The list of changes goes on through all renewals.
+ * So a map has places for 256 sessions, and its room is for those that make changes.
+ *
+ * A renewal takes the time of a copy of all entries, and memory for both maps. Searches go on meanwhile: one waits only while the sessions
+ * are gathered, before the copy and after, or if its session is with the renewal, which is that of the change that renews, or of some thread
+ * where blink_map_renew does. Changes wait for all of it. Once the entries are copied, a renewal looks up to a million times for each
+ * session that is in a search. A call that has to wait is refused with BLINK_RENEWING after `tries` looks, and changes nothing. So is a
+ * change that finds the map full while a session is held (blink_session_hold), has an operation under way, or is in a call. Call
+ * again then; the functions that wait do. Who wants no pause opens a map with a fixed room (blink_map_open_with_room): it is never renewed.
+ *
+ * blink_map_open and blink_map_open_with_room, blink_map_share, blink_map_join, blink_map_renew, blink_map_close, blink_session_snapshot and
+ * changes that renew the map take memory.
  *
  * From the opening to the close, each code to be looked at:
  *
- *     blink_room_for(&index, insertions, 2, &pages, &rows);
- *     blink_map_open(&index, pages, rows, 2, &map);
- *         in each of two threads, whose session begins as {NULL}:
+ *     blink_map_open(&index, &map);
+ *         in each thread, whose session begins as {NULL}:
  *             blink_map_join(&map, &session);
  *             blink_session_put_wait(&session, key, pointer, &answer);
  *             blink_session_free(session);
  *     blink_map_close(&map, &closed);
  *     blink_map_free(map);
  *
- * A map doesn't grow; a growing map, below, does. Once its page numbers are used up, insertions of absent keys are refused with
- * BLINK_FULL; finds, deletions and puts of present keys go on. For more keys, free the sessions, close the map, pack the index by
- * blink_index_compact, and open a larger map over it. examples/c/session_cache.c is a whole program.
+ * examples/c/session_cache.c is a whole program.
  */
 
-/* Opens a map over the index, which stays as it is, with places for 1 to 256 sessions. While it opens, it takes twice the memory that the
- * map has then. A split of a page takes one of `pages` page numbers, and every write of a whole page one of `rows` rows. Most changes are
+/* Opens a map over the index, which stays as it is, with places for 256 sessions. While it opens, it takes twice the memory that the
+ * map has then. Refused: BLINK_MAP_TOO_LARGE, if the index leaves too few of the 1,048,575 page numbers; BLINK_NO_MEMORY. */
+static inline int blink_map_open(const blink_index *index, blink_map *out);
+
+/* Opens a map as blink_map_open does, which has so many page numbers and rows for its first changes; blink_room_for works them out. Where a
+ * change finds too few left, the map is renewed, and grows as any other. But if its room is `fixed`, it has places for `sessions` sessions, and
+ * is never renewed, so no call waits for a copy: such a change is refused with BLINK_FULL, and all other calls go on.
+ *
+ * A split of a page takes one of `pages` page numbers, and every write of a whole page one of `rows` rows. Most changes are
  * appended to the row of their page, and take none. An insertion has to have 22 numbers and 44 rows when it begins; a deletion, a replacement
  * or an exchange has to have one row.
  * Sessions draw both from the map's pool, at most 64 numbers and 1,024 rows at once; what one draws no other gets, before its place is
  * taken again. One that has fewer than 22 numbers draws others, and keeps those that it had, which it uses first. So no number is lost:
  * when all is full, each session has at most 21 left, and the pool as many. Splits by one session take 19,979 of 20,000 numbers, 979 of
  * 1,000, and 179 of 200 (measured).
- * Half of the rows are the sessions', in equal parts, of 44 at least and 4,096 at most; a new page keeps one of the others. Tested: a row
- * that a write replaces comes back to its session, once each call that was in progress has ended. So two rows for each page number, and a
+ * Half of the rows are for `sessions` sessions, in equal parts, of 44 at least and 4,096 at most; a new page keeps one of the others. Tested: a
+ * row that a write replaces comes back to its session, once each call that was in progress has ended. So two rows for each page number, and a
  * few hundred for each session, are enough for all changes as long as the page numbers last. While a thread is held up inside a call no
- * row comes back, and a change may be refused with BLINK_ROWS_BUSY, and let through later. Refused: BLINK_BAD_SESSIONS, exactly if there
- * are to be none or more than 256; then BLINK_MAP_TOO_LARGE, exactly if the index's pages and `pages` are above 1,048,575;
- * BLINK_NO_MEMORY. */
-static inline int blink_map_open(const blink_index *index, uint32_t pages, uint32_t rows, uint32_t sessions, blink_map *out);
+ * row comes back, and a change may be refused with BLINK_ROWS_BUSY, and let through later. Refused: BLINK_BAD_SESSIONS, if `sessions`
+ * is 0 or more than 256; BLINK_MAP_TOO_LARGE, if the index's pages and `pages` are above 1,048,575; BLINK_NO_MEMORY. */
+static inline int blink_map_open_with_room(const blink_index *index, uint32_t pages, uint32_t rows, uint32_t sessions, bool fixed,
+                                           blink_map *out);
 
-/* Opens a map whose number is 0, and stores its place, at which no other map lies while it or a session of it lives; and gives a map its
- * number. Sessions get the number when they join, and by it sessions of two maps are told apart. So whoever calls these, as a program in
- * another language, names each map by its place before a session joins. Refused: as blink_map_open. */
-int blink_map_open_unnamed(const blink_index *index, uint32_t pages, uint32_t rows, uint32_t sessions, blink_map *out, uint64_t *place);
+/* The same two for a map whose number is 0: they store its place, at which no other map lies while it or a session of it lives. The third
+ * gives a map its number. Sessions get the number when they join, and by it sessions of two maps are told apart. So whoever calls these, as a
+ * program in another language, names each map by its place before a session joins. */
+int blink_map_open_unnamed(const blink_index *index, blink_map *out, uint64_t *place);
+int blink_map_open_with_room_unnamed(const blink_index *index, uint32_t pages, uint32_t rows, uint32_t sessions, bool fixed, blink_map *out,
+                                     uint64_t *place);
 void blink_map_name(blink_map *map, uint64_t number);
 
-static inline int blink_map_open(const blink_index *index, uint32_t pages, uint32_t rows, uint32_t sessions, blink_map *out) {
+static inline int blink_map_open(const blink_index *index, blink_map *out) {
     uint64_t place;
-    int code = blink_map_open_unnamed(index, pages, rows, sessions, out, &place);
+    int code = blink_map_open_unnamed(index, out, &place);
+    if (code == BLINK_DONE) blink_map_name(out, place);
+    return code;
+}
+
+static inline int blink_map_open_with_room(const blink_index *index, uint32_t pages, uint32_t rows, uint32_t sessions, bool fixed,
+                                           blink_map *out) {
+    uint64_t place;
+    int code = blink_map_open_with_room_unnamed(index, pages, rows, sessions, fixed, out, &place);
     if (code == BLINK_DONE) blink_map_name(out, place);
     return code;
 }
@@ -554,7 +577,7 @@ static inline int blink_map_open(const blink_index *index, uint32_t pages, uint3
  * and their order, by so many sessions, and for any number of other changes. Each leaf of the index may be full and split once; after that
  * a leaf splits again once half of a page has been inserted into it. Random keys take about two thirds of these page numbers. Beside them,
  * each session gets 86, since it may have drawn so many and not used them. With their rows they take 0.3 MB, whether the session is there or
- * not. What is too large, blink_map_open refuses. */
+ * not. What is too large, blink_map_open_with_room refuses. */
 static inline void blink_room_for(const blink_index *index, uint32_t insertions, uint32_t sessions, uint32_t *pages, uint32_t *rows) {
     uint64_t half = (blink_index_fan(index) + 1u) / 2; /* so many insertions fill the half that a split leaves */
     uint64_t leaves = blink_index_pages(index) + insertions / half;
@@ -570,17 +593,19 @@ static inline void blink_room_for(const blink_index *index, uint32_t insertions,
 static inline int blink_map_share(blink_map *map, blink_map *out);
 
 /* Gives a session. It takes memory for the handle alone. Refused: BLINK_NO_SESSION; BLINK_NO_MEMORY. Tested: it is BLINK_NO_SESSION
- * if the map is closed; otherwise only if each place was taken. */
+ * if a close of the map has begun; otherwise only if each place was taken. */
 static inline int blink_map_join(blink_map *map, blink_session *out);
 
-/* Stores how many rows and page numbers the map's pool has left, for a look: sessions may draw at any time. The rows come first here, and
- * the page numbers first in blink_map_open. Tested: it stores what there is, and 0 twice if the map is closed. */
-static inline void blink_map_room(blink_map *map, uint64_t *rows, uint64_t *pages);
+/* Stores how many rows and page numbers the map's pool has left, for a look: sessions may draw at any time, and the map may be renewed. It
+ * looks `looks` times for a session that is in no call, and not held. The rows come first here, and the page numbers first in
+ * blink_map_open_with_room. Tested: it stores what there is. Refused: BLINK_RENEWING, if it found no such session, or the map was being
+ * renewed; BLINK_MAP_CLOSED, if a close of the map has begun; then both stay as they were. */
+static inline int blink_map_room(blink_map *map, uint32_t looks, uint64_t *rows, uint64_t *pages);
 
 /* The same three, where no other call uses the handle `map` at the same time. */
 int blink_map_share_alone(blink_map *map, blink_map *out);
 int blink_map_join_alone(blink_map *map, blink_session *out);
-void blink_map_room_alone(blink_map *map, uint64_t *rows, uint64_t *pages);
+int blink_map_room_alone(blink_map *map, uint32_t looks, uint64_t *rows, uint64_t *pages);
 
 /* Takes the pointer out of a handle, which the caller puts back. Until then this waits in other threads. For the functions below. */
 static inline blink_map blink_map_taken(blink_map *map) {
@@ -603,59 +628,71 @@ static inline int blink_map_join(blink_map *map, blink_session *out) {
     return code;
 }
 
-static inline void blink_map_room(blink_map *map, uint64_t *rows, uint64_t *pages) {
+static inline int blink_map_room(blink_map *map, uint32_t looks, uint64_t *rows, uint64_t *pages) {
     blink_map taken = blink_map_taken(map);
-    blink_map_room_alone(&taken, rows, pages);
+    int code = blink_map_room_alone(&taken, looks, rows, pages);
     __atomic_store_n(&map->at, taken.at, __ATOMIC_RELEASE);
+    return code;
 }
 
-/* Closes the map, and gives the index of its tree, in an empty handle: that of the index which the map was opened over is full until it is
- * freed. The new one has the entries that the map was opened with, after all changes of the list. The handle stays,
- * and is still to be freed. An operation that was under way when its session was freed, and couldn't be ended, has made its change or
- * never makes it. Refused: BLINK_MAP_CLOSED, exactly if the map is closed; BLINK_SESSION_MISSING; BLINK_NO_MEMORY; BLINK_MAP_TOO_LARGE.
- * But for BLINK_MAP_CLOSED the map stays, with all its entries, and the call may be made again; no session may join any more after
- * BLINK_NO_MEMORY. Tested: it is BLINK_SESSION_MISSING if the handle of a session, or another handle of the map, isn't freed, and in no
- * other case. It is BLINK_MAP_TOO_LARGE only where such an operation was lost, and the entries need more pages than there are numbers. */
+/* Renews the map in good time, which spares other threads the renewal, and not the pause of their changes. It looks `looks` times for each
+ * session that is held or in a call. It copies by a session that nobody has, or else by one whose searches wait meanwhile. No other call uses
+ * the handle meanwhile: who renews by a thread of its own shares the map before. Refused:
+ * BLINK_RENEWING, if one was at each look, or another thread was renewing the map; BLINK_MAP_TOO_LARGE; BLINK_NO_MEMORY; BLINK_MAP_CLOSED.
+ * Then the map goes on with the room that it has left. If the room of an open map is fixed, the call is refused with BLINK_FULL, and with
+ * nothing else; no other map is refused with it. */
+int blink_map_renew(blink_map *map, uint32_t looks);
+
+/* Closes the map, and gives an index of its entries in as few pages as they need, in an empty handle: that of the index which the map was
+ * opened over is full until it is freed. The new one has the entries that the map was opened with, after all changes of the list. The handle
+ * of the map stays, and is still to be freed. Refused: BLINK_MAP_CLOSED, exactly if the map is closed; BLINK_SESSION_MISSING;
+ * BLINK_NO_MEMORY; BLINK_MAP_TOO_LARGE; BLINK_RENEWING, only if a session was lost in the midst of an operation (blink_session_free). But for
+ * BLINK_MAP_CLOSED the map stays, with all its entries, and the call may be made again; no session may join any more after the last three.
+ * Tested: it is BLINK_SESSION_MISSING if the handle of a session, or another handle of the map, isn't freed, and in no other case. */
 int blink_map_close(blink_map *map, blink_index *out);
 
 /* Frees the handle. The handles of sessions, and others of the map, may still be used, and are still to be freed. */
 void blink_map_free(blink_map map);
 
+/* The calls of sessions wait for nobody. A thread that may wait takes blink_session_find_wait, blink_session_insert_wait and their like, at
+ * the end of this file, which have no `tries`. Each looks for its session `tries` times, at least once, while the map is renewed, and is
+ * refused with BLINK_RENEWING if it doesn't find it; and with BLINK_PENDING, if an operation of the session is under way. Then nothing
+ * changes. */
+
 /* Looks any key up: the answer is BLINK_FOUND or BLINK_ABSENT, after the changes that the session has seen by the end of the call. It returns
- * BLINK_DONE in both cases, so `answer` has to be looked at. Refused: BLINK_PENDING; then nothing changes. */
-int blink_session_find(blink_session *session, uint64_t key, blink_answer *answer);
+ * BLINK_DONE in both cases, so `answer` has to be looked at. Refused: BLINK_PENDING; BLINK_RENEWING. */
+int blink_session_find(blink_session *session, uint64_t key, uint32_t tries, blink_answer *answer);
 
 /* Gives the entries whose keys are from `lo` to `hi`, both included, in ascending order, as many as there are places; other places
  * stay as they were. It reads leaf after leaf, from the left, each at one time: what it says of a key is what the changes up to some
  * time in the call leave of it, and of a greater key those up to that time or a later one. A key that is there throughout the
  * call is reported, and one that isn't there throughout isn't. The session has seen the changes up to these times then. A walk in parts
- * calls again from `next` as long as `more` is 1; without a place it gets nowhere. It takes no memory. Refused: BLINK_PENDING; then nothing
- * changes. */
-int blink_session_scan(blink_session *session, uint64_t lo, uint64_t hi, blink_entry *entries, size_t places,
+ * calls again from `next` as long as `more` is 1; without a place it gets nowhere. It takes no memory. Refused: BLINK_PENDING;
+ * BLINK_RENEWING. */
+int blink_session_scan(blink_session *session, uint64_t lo, uint64_t hi, uint32_t tries, blink_entry *entries, size_t places,
                        blink_scanned *scanned);
 
 /* The same in descending order, as blink_pass_scan_back. */
-int blink_session_scan_back(blink_session *session, uint64_t lo, uint64_t hi, blink_entry *entries, size_t places,
+int blink_session_scan_back(blink_session *session, uint64_t lo, uint64_t hi, uint32_t tries, blink_entry *entries, size_t places,
                             blink_scanned *scanned);
 
 /* Takes a snapshot: the entries whose keys are from `lo` to `hi`, both included, in ascending order, as all of them were at one time in
  * the call. They are what the changes that the session has seen then leave of each of these keys. The array gets as many as there are
  * places, and `taken` says how many there are; other places stay as they were. If some leaf of the range was changed at each of `tries`
- * tries, there is no snapshot, and the places stay as they were: try again, or scan. It waits for nobody. It takes memory for the
- * entries and 16 bytes for each leaf, and frees it again. Refused: BLINK_PENDING; BLINK_NO_MEMORY, and then the session may have seen
- * more. */
+ * tries, there is no snapshot, and the places stay as they were: try again, or scan. It takes memory for the
+ * entries and 16 bytes for each leaf, and frees it again. Refused: BLINK_PENDING; BLINK_RENEWING; BLINK_NO_MEMORY, and then the session may
+ * have seen more. */
 int blink_session_snapshot(blink_session *session, uint64_t lo, uint64_t hi, uint32_t tries, blink_entry *entries, size_t places,
                            blink_taken *taken);
 
-/* A thread that may wait takes blink_session_insert_wait and its like, at the end of this file, which have no `tries`. These wait for nobody.
- *
- * Insert, delete, replace or exchange any key; the last answers as blink_index_exchange does, and no other session changes the key
- * between the test and the replacement. It returns BLINK_DONE and the answer once the operation has ended, and BLINK_PENDING if it
- * hasn't: then it goes on by blink_session_advance, and until it has ended the session can do nothing else. Tested: that is after
- * `tries` steps in vain, since another session has the page that it wants. Refused: BLINK_FULL, only if the session lacks the room that
- * the operation may need also once all its rows have come back; BLINK_ROWS_BUSY, only if it has the room then, so that the call may be
- * made again. Both change nothing but what the session has drawn, and an insertion has them only if its key is absent: otherwise it is
- * BLINK_EXISTS all the same. Refused also: BLINK_PENDING, if an operation was under way before, and then nothing changes. */
+/* Insert, delete, replace or exchange any key; the last answers as blink_index_exchange does, and no other session changes the key
+ * between the test and the replacement. Where the map is full they renew it, unless its room is fixed, and take memory then. They return
+ * BLINK_DONE and the answer once the operation has ended, and BLINK_PENDING if it
+ * hasn't: then it goes on by blink_session_advance, and until it has ended the session can do nothing else, and is held. Tested: that is after
+ * `tries` steps in vain, since another session has the page that it wants. Refused: BLINK_PENDING, if an operation was under way before, and
+ * then nothing changes; BLINK_RENEWING; BLINK_ROWS_BUSY, if rows of the session are on their way back; BLINK_MAP_TOO_LARGE; BLINK_NO_MEMORY;
+ * BLINK_FULL, only if the map's room is fixed. The operation isn't made then, and may be begun again. Tested: an insertion of a fixed map is
+ * refused with BLINK_FULL only if its key is absent: otherwise it is BLINK_EXISTS all the same. */
 int blink_session_insert(blink_session *session, uint64_t key, uint64_t pointer, uint32_t tries, blink_answer *answer);
 int blink_session_delete(blink_session *session, uint64_t key, uint32_t tries, blink_answer *answer);
 int blink_session_replace(blink_session *session, uint64_t key, uint64_t pointer, uint32_t tries, blink_answer *answer);
@@ -668,134 +705,37 @@ int blink_session_delete_exact(blink_session *session, uint64_t key, uint64_t ex
 
 /* Maps any key to the pointer: BLINK_INSERTED, if nothing was there, or BLINK_REPLACED and the pointer that was there. It replaces, and
  * where the key is absent it inserts; it begins anew where another session has inserted the key between. It goes on as a replacement
- * does, and comes back with BLINK_PENDING also where it begins anew. Refused: as a replacement; or, where it found the key absent, as an
- * insertion; also when it goes on. Then it has made no change. */
+ * does, and comes back with BLINK_PENDING also where it begins anew. Refused: as an insertion, also when it goes on. Then it has made no
+ * change. */
 int blink_session_put(blink_session *session, uint64_t key, uint64_t pointer, uint32_t tries, blink_answer *answer);
 
 /* Takes the next steps of the operation or the put that is under way. It returns BLINK_DONE and the answer once that has ended, and
  * BLINK_PENDING if it hasn't: then it holds no page, so that no other session waits for it, and the thread may do something else,
- * yield or wait as it likes, and calls again. It never waits itself. Refused: BLINK_IDLE, if nothing is under way; BLINK_FULL or
- * BLINK_ROWS_BUSY, of a put, which has then ended without a change. */
+ * yield or wait as it likes, and calls again. Refused: BLINK_IDLE, if nothing is under way; and of a put as blink_session_put, which has
+ * then ended without a change. */
 int blink_session_advance(blink_session *session, uint32_t tries, blink_answer *answer);
 
-/* Tells session `to` what session `from` has seen: then `to` has seen all that `from` has seen. The two handles are different.
- * Refused, looked for in this order: BLINK_FOREIGN, if the sessions are of two maps; BLINK_PENDING, if `from` isn't free; the same, if
- * `to` isn't. Then nothing changes. */
-int blink_session_tell(blink_session *from, blink_session *to);
-
-/* Tells what the session has of page numbers and rows, for a look; blink_map_room tells what the pool has left. It changes
- * nothing. Refused: BLINK_PENDING; then `reserve` stays as it was. */
-int blink_session_reserve(const blink_session *session, blink_reserve *reserve);
-
-/* Frees the handle. Tested: a session leaves its map by it, and its place can be taken again. An operation or a put under way goes on to
- * its end before; only a put may be left undone, where the session has no room for its other half. If it still waits for other sessions
- * after 1,000 tries, its place is lost, and nothing else: the operation has made its change or never makes it. */
-void blink_session_free(blink_session session);
-
-/* ---- The growing map: a map that has no room to be told. ----
- *
- * It is one map after another. A change that finds no room renews it: all sessions are gathered, the entries are copied into another map
- * with more room, and all go on there. So it is never refused with BLINK_FULL, unless the map's room is fixed
- * (blink_growing_open_with_room). What the calls of sessions promise is that of the map's, and there is one list of changes, which goes on
- * through all renewals.
- *
- * A renewal takes the time of a copy of all entries, and memory for both maps. Searches go on meanwhile: one waits only while the sessions
- * are gathered, before the copy and after, or if its session is with the renewal, which is that of the change that renews, or of some thread
- * where blink_growing_renew does. Changes wait for all of it. Once the entries are copied, a renewal looks up to a million times for each
- * session that is in a search. A call that has to wait is refused with BLINK_RENEWING after `tries` looks, and changes nothing. So is a
- * change that finds the map full while a session is held (blink_growing_session_hold), has an operation under way, or is in a call. Call
- * again then; the functions that wait do.
- *
- * Different handles may be used at the same time, each by one thread: who needs the map in another thread has a handle of it by
- * blink_growing_share. From the opening to the close, each code to be looked at:
- *
- *     blink_index_new(32, &index);
- *     blink_growing_open(&index, 2, &map);
- *     blink_growing_join(&map, &session);     for each of two threads, whose session begins as {NULL}
- *         blink_growing_session_put_wait(&session, key, pointer, &answer);
- *         blink_growing_session_free(session);
- *     blink_growing_close(&map, &closed);
- *     blink_growing_free(map);
- */
-
-/* Opens a growing map over the index, which stays as it is, with places for 1 to 256 sessions. Refused: BLINK_BAD_SESSIONS;
- * BLINK_MAP_TOO_LARGE, if the index leaves too few of the 1,048,575 page numbers; BLINK_NO_MEMORY. */
-int blink_growing_open(const blink_index *index, uint32_t sessions, blink_growing *out);
-
-/* Opens a growing map as blink_growing_open does, which has so many page numbers and rows for its first changes. blink_map_open says what
- * they are, and blink_room_for works them out. Where a change finds too few left, the map is renewed, and grows as any other. But if its room
- * is `fixed`, it is never renewed, so no call waits for a copy: such a change is refused with BLINK_FULL, an insertion only if its key is
- * absent, and all other calls go on. Refused: BLINK_BAD_SESSIONS; BLINK_MAP_TOO_LARGE, if the index's pages and `pages` are above 1,048,575;
- * BLINK_NO_MEMORY. */
-int blink_growing_open_with_room(const blink_index *index, uint32_t pages, uint32_t rows, uint32_t sessions, bool fixed, blink_growing *out);
-
-/* Gives one more handle of the map. It takes memory for the handle alone. Refused: BLINK_MAP_CLOSED, if a close of the map has begun;
- * BLINK_NO_MEMORY. */
-int blink_growing_share(blink_growing *map, blink_growing *out);
-
-/* Gives a session. It takes memory for the handle alone. Refused: BLINK_NO_SESSION; BLINK_NO_MEMORY. Tested: it is BLINK_NO_SESSION if a
- * close of the map has begun; otherwise only if each place was taken. */
-int blink_growing_join(blink_growing *map, blink_growing_session *out);
-
-/* Renews the map in good time, which spares other threads the renewal, and not the pause of their changes. It looks `looks` times for each
- * session that is held or in a call. It copies by a session that nobody has, or else by one whose searches wait meanwhile. Refused:
- * BLINK_RENEWING, if one was at each look, or another thread was renewing the map; BLINK_MAP_TOO_LARGE; BLINK_NO_MEMORY; BLINK_MAP_CLOSED.
- * Then the map goes on with the room that it has left. If the room of an open map is fixed, the call is refused with BLINK_FULL, and with
- * nothing else; no other map is refused with it. */
-int blink_growing_renew(blink_growing *map, uint32_t looks);
-
-/* Closes the map, and gives an index of its entries in as few pages as they need, in an empty handle. The handle of the map stays, and is
- * still to be freed. Refused: BLINK_MAP_CLOSED, exactly if the map is closed; BLINK_SESSION_MISSING, if the handle of a session, or another
- * one of the map, isn't freed; BLINK_NO_MEMORY; BLINK_MAP_TOO_LARGE; BLINK_RENEWING, only if a session was lost in the midst of an operation
- * (blink_growing_session_free). But for BLINK_MAP_CLOSED the map stays, with all its entries, and the call may be made again; no session
- * may join any more after the last three. */
-int blink_growing_close(blink_growing *map, blink_index *out);
-
-/* Frees the handle. The handles of sessions, and others of the map, may still be used, and are still to be freed. */
-void blink_growing_free(blink_growing map);
-
-/* Look a key up, scan a range up or down, take a snapshot: as blink_session_find and its like do. Refused: BLINK_PENDING, and then nothing
- * changes; BLINK_RENEWING; the snapshot also with BLINK_NO_MEMORY. */
-int blink_growing_session_find(blink_growing_session *session, uint64_t key, uint32_t tries, blink_answer *answer);
-int blink_growing_session_scan(blink_growing_session *session, uint64_t lo, uint64_t hi, uint32_t tries, blink_entry *entries, size_t places,
-                               blink_scanned *scanned);
-int blink_growing_session_scan_back(blink_growing_session *session, uint64_t lo, uint64_t hi, uint32_t tries, blink_entry *entries,
-                                    size_t places, blink_scanned *scanned);
-int blink_growing_session_snapshot(blink_growing_session *session, uint64_t lo, uint64_t hi, uint32_t tries, blink_entry *entries,
-                                   size_t places, blink_taken *taken);
-
-/* Insert, delete, replace or exchange any key, or delete it if its pointer is `expected`: as blink_session_insert and its like do. Where the
- * map is full they renew it, unless its room is fixed, and take memory then. It returns BLINK_PENDING where the operation waits for another
- * session after `tries` steps in vain: then it goes on by blink_growing_session_advance, and the session is held until it has ended. Refused:
- * BLINK_PENDING, if an operation was under way before, and then nothing changes; BLINK_RENEWING; BLINK_ROWS_BUSY, if rows of the session are
- * on their way back; BLINK_MAP_TOO_LARGE; BLINK_NO_MEMORY; BLINK_FULL, only if the map's room is fixed. The operation isn't made then, and
- * may be begun again. */
-int blink_growing_session_insert(blink_growing_session *session, uint64_t key, uint64_t pointer, uint32_t tries, blink_answer *answer);
-int blink_growing_session_delete(blink_growing_session *session, uint64_t key, uint32_t tries, blink_answer *answer);
-int blink_growing_session_replace(blink_growing_session *session, uint64_t key, uint64_t pointer, uint32_t tries, blink_answer *answer);
-int blink_growing_session_exchange(blink_growing_session *session, uint64_t key, uint64_t expected, uint64_t pointer, uint32_t tries,
-                                   blink_answer *answer);
-int blink_growing_session_delete_exact(blink_growing_session *session, uint64_t key, uint64_t expected, uint32_t tries,
-                                       blink_answer *answer);
-
-/* Takes the next steps of the operation that is under way: BLINK_DONE and the answer once that has ended, and BLINK_PENDING if it hasn't.
- * Refused: BLINK_IDLE, if nothing is under way. */
-int blink_growing_session_advance(blink_growing_session *session, uint32_t tries, blink_answer *answer);
+/* Tells session `to` what session `from` has seen: then `to` has seen all that `from` has seen. The two handles are different. A session that
+ * is held is let go for the call, and is held again afterwards; if the map is being renewed by then, it is free until its next change or
+ * hold. Refused, looked for in this order: BLINK_FOREIGN, if the sessions are of two maps; BLINK_PENDING, if an operation of one of the two is
+ * under way; BLINK_RENEWING. Then neither has made a change. */
+int blink_session_tell(blink_session *from, blink_session *to, uint32_t tries);
 
 /* Holds the session for the calls that follow, so that they find no renewal, until it is let go. The map is neither renewed nor closed
  * meanwhile, so hold it for a few calls, and let it go before the thread waits for anything. A change of this session that finds the map
  * full lets it go itself, and so does one that goes on: it is held again by the next change. Refused: BLINK_PENDING; BLINK_RENEWING. */
-int blink_growing_session_hold(blink_growing_session *session, uint32_t tries);
-void blink_growing_session_let_go(blink_growing_session *session);
+int blink_session_hold(blink_session *session, uint32_t tries);
+void blink_session_let_go(blink_session *session);
 
-/* Tells what the session has of page numbers and rows in the map that it is in just now, for a look: as blink_session_reserve does. Where the
- * room is fixed, that shows how near its end is. The session is held for the call. Refused: BLINK_PENDING; BLINK_RENEWING; then `reserve` stays
- * as it was. */
-int blink_growing_session_reserve(blink_growing_session *session, uint32_t tries, blink_reserve *reserve);
+/* Tells what the session has of page numbers and rows in the map that it is in just now, for a look; blink_map_room tells what the pool has
+ * left. Where the room is fixed, that shows how near its end is. The session is held for the call. Refused: BLINK_PENDING; BLINK_RENEWING; then
+ * `reserve` stays as it was. */
+int blink_session_reserve(blink_session *session, uint32_t tries, blink_reserve *reserve);
 
-/* Frees the handle. A session leaves its map by it, and its place can be taken again. An operation under way goes on to its end before. If it
- * still waits for another session after 1,000 tries, the session is lost, and the map can be neither renewed nor closed any more. */
-void blink_growing_session_free(blink_growing_session session);
+/* Frees the handle. Tested: a session leaves its map by it, and its place can be taken again. An operation or a put under way goes on to
+ * its end before; only a put may be left undone, where the map has no room for its other half. If it still waits for other sessions
+ * after 1,000 tries, the session is lost, and the map can be neither renewed nor closed any more. */
+void blink_session_free(blink_session session);
 
 /* Tells ThreadSanitizer, where it is on, what "Threads" says of pointers: of the calls above, and so of the functions below. */
 #if defined(__SANITIZE_THREAD__)
@@ -806,12 +746,13 @@ void blink_growing_session_free(blink_growing_session session);
 #endif
 #endif
 
-/* ---- Changes to their end. ----
+/* ---- Calls to their end. ----
  *
- * For a thread that may wait. These make a change and go on until it has ended. Where another thread has the page that the change wants,
- * or the session's rows are on their way back, they let other threads run (sched_yield) and go on. They are made of the calls above, which
- * wait for nobody, and are no exports. Each answers and is refused as the call that begins the change, but they never return
- * BLINK_ROWS_BUSY, and BLINK_PENDING only if an operation was under way before; then nothing changes.
+ * For a thread that may wait. These make a call and go on until it has ended. Where another thread has the page that a change wants, or the
+ * session's rows are on their way back, where the map is renewed, or a session that is held or in a call keeps it from being renewed, they
+ * let other threads run (sched_yield) and go on. They are made of the calls above, which wait for nobody, and are no exports. Each answers and
+ * is refused as the call that it makes, but they never return BLINK_ROWS_BUSY or BLINK_RENEWING, and BLINK_PENDING only if an operation was
+ * under way before; then nothing changes.
  */
 
 /* Ends the operation or the put that is under way. Refused: as blink_session_advance, but never with BLINK_PENDING. */
@@ -821,161 +762,100 @@ static inline int blink_session_finish(blink_session *session, blink_answer *ans
     return code;
 }
 
-/* Whether a change with this code has to begin once more; if not, `code` is how it has ended. For the functions below. */
-static inline bool blink_session_again(blink_session *session, int *code, blink_answer *answer) {
-    if (*code == BLINK_PENDING) *code = blink_session_finish(session, answer);
-    if (*code != BLINK_ROWS_BUSY) return false;
-    sched_yield();
-    return true;
-}
-
-/* Whether the session is free: BLINK_DONE, or BLINK_PENDING. */
-static inline int blink_session_is_free(blink_session *session) {
-    blink_reserve reserve;
-    return blink_session_reserve(session, &reserve);
-}
-
-/* The body of each function below: a change of a free session, which begins until it has ended. */
-#define BLINK_WAITS(begins)                              \
-    int code = blink_session_is_free(session);           \
-    if (code != BLINK_DONE) return code;                 \
-    do code = begins;                                    \
-    while (blink_session_again(session, &code, answer)); \
-    return code
-
-static inline int blink_session_insert_wait(blink_session *session, uint64_t key, uint64_t pointer, blink_answer *answer) {
-    BLINK_WAITS(blink_session_insert(session, key, pointer, BLINK_TRIES, answer));
-}
-
-static inline int blink_session_delete_wait(blink_session *session, uint64_t key, blink_answer *answer) {
-    BLINK_WAITS(blink_session_delete(session, key, BLINK_TRIES, answer));
-}
-
-static inline int blink_session_replace_wait(blink_session *session, uint64_t key, uint64_t pointer, blink_answer *answer) {
-    BLINK_WAITS(blink_session_replace(session, key, pointer, BLINK_TRIES, answer));
-}
-
-static inline int blink_session_exchange_wait(blink_session *session, uint64_t key, uint64_t expected, uint64_t pointer,
-                                              blink_answer *answer) {
-    BLINK_WAITS(blink_session_exchange(session, key, expected, pointer, BLINK_TRIES, answer));
-}
-
-static inline int blink_session_delete_exact_wait(blink_session *session, uint64_t key, uint64_t expected, blink_answer *answer) {
-    BLINK_WAITS(blink_session_delete_exact(session, key, expected, BLINK_TRIES, answer));
-}
-
-static inline int blink_session_put_wait(blink_session *session, uint64_t key, uint64_t pointer, blink_answer *answer) {
-    BLINK_WAITS(blink_session_put(session, key, pointer, BLINK_TRIES, answer));
-}
-
-#undef BLINK_WAITS
-
-/* The same of a growing map's session. They never return BLINK_RENEWING either, and wait while the map is renewed, or a session that is held
- * or in a call keeps it from being renewed. */
-static inline int blink_growing_session_finish(blink_growing_session *session, blink_answer *answer) {
-    int code;
-    while ((code = blink_growing_session_advance(session, BLINK_TRIES, answer)) == BLINK_PENDING) sched_yield();
-    return code;
-}
-
-/* Whether a call with this code has to begin once more; if not, `code` is how it has ended. Where the map couldn't be renewed it has ten times
+/* Whether a change with this code has to begin once more; if not, `code` is how it has ended. Where the map couldn't be renewed it has ten times
  * as many tries, up to BLINK_MOST_TRIES, so that a renewal outlasts a call of a thread that was preempted. For the functions below. */
-static inline bool blink_growing_session_again(blink_growing_session *session, int *code, uint32_t *tries, blink_answer *answer) {
-    if (*code == BLINK_PENDING) *code = blink_growing_session_finish(session, answer);
+static inline bool blink_session_again(blink_session *session, int *code, uint32_t *tries, blink_answer *answer) {
+    if (*code == BLINK_PENDING) *code = blink_session_finish(session, answer);
     if (*code != BLINK_ROWS_BUSY && *code != BLINK_RENEWING) return false;
     if (*code == BLINK_RENEWING && *tries < BLINK_MOST_TRIES) *tries *= 10;
     sched_yield();
     return true;
 }
 
-/* The body of each change below. A call on a session that has an operation under way ends that one: so there is none. */
-#define BLINK_WAITS(begins)                                              \
-    uint32_t tries = BLINK_TRIES;                                        \
-    int code;                                                            \
-    do code = begins;                                                    \
-    while (blink_growing_session_again(session, &code, &tries, answer)); \
+/* Whether no operation of the session is under way: BLINK_DONE, or BLINK_PENDING. */
+static inline int blink_session_is_free(blink_session *session) {
+    blink_scanned none;
+    blink_entry nowhere;
+    int code;
+    while ((code = blink_session_scan(session, 1, 0, BLINK_TRIES, &nowhere, 0, &none)) == BLINK_RENEWING) sched_yield();
+    return code;
+}
+
+/* The body of each change below, by a session that has no operation under way: it begins until it has ended. */
+#define BLINK_WAITS(begins)                                      \
+    uint32_t tries = BLINK_TRIES;                                \
+    int code = blink_session_is_free(session);                   \
+    if (code != BLINK_DONE) return code;                         \
+    do code = begins;                                            \
+    while (blink_session_again(session, &code, &tries, answer)); \
     return code
 
-static inline int blink_growing_session_insert_wait(blink_growing_session *session, uint64_t key, uint64_t pointer, blink_answer *answer) {
-    BLINK_WAITS(blink_growing_session_insert(session, key, pointer, tries, answer));
+static inline int blink_session_insert_wait(blink_session *session, uint64_t key, uint64_t pointer, blink_answer *answer) {
+    BLINK_WAITS(blink_session_insert(session, key, pointer, tries, answer));
 }
 
-static inline int blink_growing_session_delete_wait(blink_growing_session *session, uint64_t key, blink_answer *answer) {
-    BLINK_WAITS(blink_growing_session_delete(session, key, tries, answer));
+static inline int blink_session_delete_wait(blink_session *session, uint64_t key, blink_answer *answer) {
+    BLINK_WAITS(blink_session_delete(session, key, tries, answer));
 }
 
-static inline int blink_growing_session_replace_wait(blink_growing_session *session, uint64_t key, uint64_t pointer, blink_answer *answer) {
-    BLINK_WAITS(blink_growing_session_replace(session, key, pointer, tries, answer));
+static inline int blink_session_replace_wait(blink_session *session, uint64_t key, uint64_t pointer, blink_answer *answer) {
+    BLINK_WAITS(blink_session_replace(session, key, pointer, tries, answer));
 }
 
-static inline int blink_growing_session_exchange_wait(blink_growing_session *session, uint64_t key, uint64_t expected, uint64_t pointer,
-                                                      blink_answer *answer) {
-    BLINK_WAITS(blink_growing_session_exchange(session, key, expected, pointer, tries, answer));
+static inline int blink_session_exchange_wait(blink_session *session, uint64_t key, uint64_t expected, uint64_t pointer,
+                                              blink_answer *answer) {
+    BLINK_WAITS(blink_session_exchange(session, key, expected, pointer, tries, answer));
 }
 
-static inline int blink_growing_session_delete_exact_wait(blink_growing_session *session, uint64_t key, uint64_t expected,
-                                                          blink_answer *answer) {
-    BLINK_WAITS(blink_growing_session_delete_exact(session, key, expected, tries, answer));
+static inline int blink_session_delete_exact_wait(blink_session *session, uint64_t key, uint64_t expected, blink_answer *answer) {
+    BLINK_WAITS(blink_session_delete_exact(session, key, expected, tries, answer));
+}
+
+static inline int blink_session_put_wait(blink_session *session, uint64_t key, uint64_t pointer, blink_answer *answer) {
+    BLINK_WAITS(blink_session_put(session, key, pointer, tries, answer));
 }
 
 #undef BLINK_WAITS
 
-/* Maps any key to the pointer: BLINK_INSERTED, if nothing was there, or BLINK_REPLACED and the pointer that was there. It replaces, and where
- * the key is absent it inserts; it begins anew where another session has inserted the key between. */
-static inline int blink_growing_session_put_wait(blink_growing_session *session, uint64_t key, uint64_t pointer, blink_answer *answer) {
-    for (;;) {
-        blink_answer given;
-        int code = blink_growing_session_replace_wait(session, key, pointer, &given);
-        if (code == BLINK_DONE && given.kind == BLINK_ABSENT) {
-            code = blink_growing_session_insert_wait(session, key, pointer, &given);
-            if (code == BLINK_DONE && given.kind == BLINK_EXISTS) continue;
-        }
-        if (code == BLINK_DONE) *answer = given;
-        return code;
-    }
+/* The body of each call below: it is made until the map isn't being renewed. */
+#define BLINK_WAITS(call)                               \
+    int code;                                           \
+    while ((code = call) == BLINK_RENEWING) sched_yield(); \
+    return code
+
+static inline int blink_session_find_wait(blink_session *session, uint64_t key, blink_answer *answer) {
+    BLINK_WAITS(blink_session_find(session, key, BLINK_TRIES, answer));
 }
 
-/* Look a key up, scan, and take a snapshot, as the calls do, and wait while the map is renewed. */
-static inline int blink_growing_session_find_wait(blink_growing_session *session, uint64_t key, blink_answer *answer) {
-    int code;
-    while ((code = blink_growing_session_find(session, key, BLINK_TRIES, answer)) == BLINK_RENEWING) sched_yield();
-    return code;
+static inline int blink_session_scan_wait(blink_session *session, uint64_t lo, uint64_t hi, blink_entry *entries, size_t places,
+                                          blink_scanned *scanned) {
+    BLINK_WAITS(blink_session_scan(session, lo, hi, BLINK_TRIES, entries, places, scanned));
 }
 
-static inline int blink_growing_session_scan_wait(blink_growing_session *session, uint64_t lo, uint64_t hi, blink_entry *entries,
-                                                  size_t places, blink_scanned *scanned) {
-    int code;
-    while ((code = blink_growing_session_scan(session, lo, hi, BLINK_TRIES, entries, places, scanned)) == BLINK_RENEWING) sched_yield();
-    return code;
+static inline int blink_session_scan_back_wait(blink_session *session, uint64_t lo, uint64_t hi, blink_entry *entries, size_t places,
+                                               blink_scanned *scanned) {
+    BLINK_WAITS(blink_session_scan_back(session, lo, hi, BLINK_TRIES, entries, places, scanned));
 }
 
-static inline int blink_growing_session_scan_back_wait(blink_growing_session *session, uint64_t lo, uint64_t hi, blink_entry *entries,
-                                                       size_t places, blink_scanned *scanned) {
-    int code;
-    while ((code = blink_growing_session_scan_back(session, lo, hi, BLINK_TRIES, entries, places, scanned)) == BLINK_RENEWING) sched_yield();
-    return code;
+static inline int blink_session_snapshot_wait(blink_session *session, uint64_t lo, uint64_t hi, uint32_t tries, blink_entry *entries,
+                                              size_t places, blink_taken *taken) {
+    BLINK_WAITS(blink_session_snapshot(session, lo, hi, tries, entries, places, taken));
 }
 
-static inline int blink_growing_session_snapshot_wait(blink_growing_session *session, uint64_t lo, uint64_t hi, uint32_t tries,
-                                                      blink_entry *entries, size_t places, blink_taken *taken) {
-    int code;
-    while ((code = blink_growing_session_snapshot(session, lo, hi, tries, entries, places, taken)) == BLINK_RENEWING) sched_yield();
-    return code;
+/* It waits as long as one of the two is in a call, or the map is renewed. */
+static inline int blink_session_tell_wait(blink_session *from, blink_session *to) {
+    BLINK_WAITS(blink_session_tell(from, to, BLINK_TRIES));
 }
 
-/* Holds the session as blink_growing_session_hold does, and waits while the map is renewed. */
-static inline int blink_growing_session_hold_wait(blink_growing_session *session) {
-    int code;
-    while ((code = blink_growing_session_hold(session, BLINK_TRIES)) == BLINK_RENEWING) sched_yield();
-    return code;
+static inline int blink_session_hold_wait(blink_session *session) {
+    BLINK_WAITS(blink_session_hold(session, BLINK_TRIES));
 }
 
-/* Tells what the session has as blink_growing_session_reserve does, and waits while the map is renewed. */
-static inline int blink_growing_session_reserve_wait(blink_growing_session *session, blink_reserve *reserve) {
-    int code;
-    while ((code = blink_growing_session_reserve(session, BLINK_TRIES, reserve)) == BLINK_RENEWING) sched_yield();
-    return code;
+static inline int blink_session_reserve_wait(blink_session *session, blink_reserve *reserve) {
+    BLINK_WAITS(blink_session_reserve(session, BLINK_TRIES, reserve));
 }
+
+#undef BLINK_WAITS
 
 /* Ends the operation that is under way. Refused: as blink_pass_advance, but never with BLINK_PENDING. */
 static inline int blink_pass_finish(blink_pass *pass, blink_answer *answer) {

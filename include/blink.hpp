@@ -2,10 +2,10 @@
 // results, and what it takes from its caller, blink.h says of the function that has the call's name. Four have another name there: remove is
 // delete, remove_exact is delete_exact, size is len, and give_back is blink_table_return.
 //
-// A refusal is thrown as blink::Error, with its code. A change at a map or a table ends before its call does: where another thread has the page
-// it yields, and where the session's rows are on their way back it begins again. One call at a time uses an object, also to read, so no call
-// is const; but several threads at once may call join, share and room of one Map, which wait for each other. An object that was moved from can
-// be destroyed and assigned to, and nothing else; one that has closed or shared what it had is such an object too.
+// A refusal is thrown as blink::Error, with its code. A call of a session and a change at a table end before they return: they are the functions
+// of blink.h that wait. One call at a time uses an object, also to read, so no call is const; but several threads at once may call join, share
+// and room of one Map, which wait for each other. An object that was moved from can be destroyed and assigned to, and nothing else; one that has
+// closed or shared what it had is such an object too.
 #ifndef BLINK_HPP
 #define BLINK_HPP
 
@@ -21,7 +21,6 @@
 #include <optional>
 #include <stdexcept>
 #include <string>
-#include <thread>
 #include <utility>
 #include <vector>
 
@@ -45,9 +44,6 @@ private:
 };
 
 namespace detail {
-
-// How many steps in vain an operation takes before its thread yields.
-constexpr std::uint32_t most_in_vain = BLINK_TRIES;
 
 inline void check(int code) {
     if (code != BLINK_DONE) throw Error(code);
@@ -294,7 +290,6 @@ private:
     friend class Reader;
     friend class Table;
     friend class Map;
-    friend class GrowingMap;
     struct Empty {};
     explicit Index(Empty) {}
 };
@@ -325,48 +320,57 @@ inline Reader Index::share() {
     return reader;
 }
 
-// The right of one thread to read and change a map.
+// The right of one thread to read and change a map. Its calls wait while the map is renewed, and its changes renew it where it is full.
 class Session {
 public:
+    // Holds a session as long as it lives, so that calls find no renewal: a few calls at most, since the map can't be renewed meanwhile.
+    class Hold {
+    public:
+        explicit Hold(Session &session) : session_(&session) { detail::check(blink_session_hold_wait(&session.handle_)); }
+        Hold(const Hold &) = delete;
+        Hold &operator=(const Hold &) = delete;
+        ~Hold() { blink_session_let_go(&session_->handle_); }
+
+    private:
+        Session *session_;
+    };
     std::optional<Pointer> find(Key key) {
-        Answer answer{0, 0};
-        detail::check(blink_session_find(&handle_, key, &answer));
-        return detail::pointer_of(answer);
+        return detail::pointer_of(ended([=](auto *it, Answer *answer) { return blink_session_find_wait(it, key, answer); }));
     }
     Answer insert(Key key, Pointer pointer) {
-        return ended([=](auto *it, Answer *answer) { return blink_session_insert(it, key, pointer, detail::most_in_vain, answer); });
+        return ended([=](auto *it, Answer *answer) { return blink_session_insert_wait(it, key, pointer, answer); });
     }
     Answer remove(Key key) {
-        return ended([=](auto *it, Answer *answer) { return blink_session_delete(it, key, detail::most_in_vain, answer); });
+        return ended([=](auto *it, Answer *answer) { return blink_session_delete_wait(it, key, answer); });
     }
     Answer replace(Key key, Pointer pointer) {
-        return ended([=](auto *it, Answer *answer) { return blink_session_replace(it, key, pointer, detail::most_in_vain, answer); });
+        return ended([=](auto *it, Answer *answer) { return blink_session_replace_wait(it, key, pointer, answer); });
     }
     Answer exchange(Key key, Pointer expected, Pointer pointer) {
-        return ended([=](auto *it, Answer *answer) { return blink_session_exchange(it, key, expected, pointer, detail::most_in_vain, answer); });
+        return ended([=](auto *it, Answer *answer) { return blink_session_exchange_wait(it, key, expected, pointer, answer); });
     }
     Answer remove_exact(Key key, Pointer expected) {
-        return ended([=](auto *it, Answer *answer) { return blink_session_delete_exact(it, key, expected, detail::most_in_vain, answer); });
+        return ended([=](auto *it, Answer *answer) { return blink_session_delete_exact_wait(it, key, expected, answer); });
     }
     // Maps the key to the pointer, and returns the one that was there.
     std::optional<Pointer> put(Key key, Pointer pointer) {
-        return detail::pointer_of(ended([=](auto *it, Answer *answer) { return blink_session_put(it, key, pointer, detail::most_in_vain, answer); }));
+        return detail::pointer_of(ended([=](auto *it, Answer *answer) { return blink_session_put_wait(it, key, pointer, answer); }));
     }
     std::vector<Entry> scan(Key lo, Key hi) {
-        return detail::scanned(&handle_, [](auto... all) { return blink_session_scan(all...); }, lo, hi);
+        return detail::scanned(&handle_, [](auto... all) { return blink_session_scan_wait(all...); }, lo, hi);
     }
     // The same from the greatest key down.
     std::vector<Entry> scan_back(Key lo, Key hi) {
-        return detail::scanned_back(&handle_, [](auto... all) { return blink_session_scan_back(all...); }, lo, hi);
+        return detail::scanned_back(&handle_, [](auto... all) { return blink_session_scan_back_wait(all...); }, lo, hi);
     }
     std::optional<std::vector<Entry>> snapshot(Key lo, Key hi, std::uint32_t tries) {
-        return detail::snapshot(&handle_, [](auto... all) { return blink_session_snapshot(all...); }, lo, hi, tries);
+        return detail::snapshot(&handle_, [](auto... all) { return blink_session_snapshot_wait(all...); }, lo, hi, tries);
     }
     // Tells the other session what this one has seen.
-    void tell(Session &other) { detail::check(blink_session_tell(&handle_, &other.handle_)); }
+    void tell(Session &other) { detail::check(blink_session_tell_wait(&handle_, &other.handle_)); }
     Reserve reserve() {
         Reserve reserve{0, 0, 0, 0, 0};
-        detail::check(blink_session_reserve(&handle_, &reserve));
+        detail::check(blink_session_reserve_wait(&handle_, &reserve));
         return reserve;
     }
     blink_session *handle() noexcept { return &handle_; }
@@ -374,19 +378,15 @@ public:
 private:
     friend class Map;
     Session() = default;
-    template <class Begin> Answer ended(Begin begin) {
+    template <class Call> Answer ended(Call call) {
         Answer answer{0, 0};
-        for (int code = begin(&handle_, &answer);;) {
-            if (code == BLINK_PENDING) code = blink_session_advance(&handle_, detail::most_in_vain, &answer);
-            else if (code == BLINK_ROWS_BUSY) code = begin(&handle_, &answer);
-            else return detail::check(code), answer;
-            if (code == BLINK_PENDING || code == BLINK_ROWS_BUSY) std::this_thread::yield();
-        }
+        detail::check(call(&handle_, &answer));
+        return answer;
     }
     detail::Handle<blink_session, blink_session_free> handle_;
 };
 
-// What a map has beside its entries, for changes and sessions to come; and what its pool has left of it.
+// What a map has beside its entries, for its first changes, and the sessions that are to make them; and what its pool has left of it.
 struct Room {
     std::uint32_t pages, rows, sessions;
     // A room over this index that is enough for so many insertions of absent keys by so many sessions: what blink_room_for says.
@@ -400,15 +400,23 @@ struct Left {
     std::uint64_t pages, rows;
 };
 
-// The entries of an index, which threads change together at any key, each by a session.
+// Entries that threads change together at any key, each by a session. Where the map is full it goes on in a larger one.
 class Map {
 public:
-    Map(Index &index, Room room) {
-        detail::check(blink_map_open(&index.handle_, room.pages, room.rows, room.sessions, &handle_));
+    // Without an entry.
+    explicit Map(std::uint8_t fan = 32) {
+        Index none(fan);
+        detail::check(blink_map_open(&none.handle_, &handle_));
+    }
+    explicit Map(Index &index) { detail::check(blink_map_open(&index.handle_, &handle_)); }
+    // Has this room for its first changes. If that is fixed, the map is never renewed, so no call waits for a copy, and a change that finds
+    // it full has error BLINK_FULL.
+    Map(Index &index, Room room, bool fixed = false) {
+        detail::check(blink_map_open_with_room(&index.handle_, room.pages, room.rows, room.sessions, fixed, &handle_));
     }
     // One more object of the same map, for another thread to join by.
     Map share() {
-        Map map;
+        Map map{Empty()};
         detail::check(blink_map_share(&handle_, &map.handle_));
         return map;
     }
@@ -417,11 +425,15 @@ public:
         detail::check(blink_map_join(&handle_, &session.handle_));
         return session;
     }
+    // Error BLINK_RENEWING, if each session is held or in a call, or the map is being renewed.
     Left room() {
         Left left{0, 0};
-        blink_map_room(&handle_, &left.rows, &left.pages);
+        detail::check(blink_map_room(&handle_, BLINK_TRIES, &left.rows, &left.pages));
         return left;
     }
+    // Renews it in good time. Error BLINK_RENEWING, if a session is held or in a call at each of so many looks, leaves it as it was. No
+    // other thread uses the object meanwhile.
+    void renew(std::uint32_t looks = BLINK_TRIES) { detail::check(blink_map_renew(&handle_, looks)); }
     // Gives the index of all entries, once each session and each other object of the map is destroyed. A refused close may be called
     // again, and has lost nothing.
     Index close() {
@@ -432,112 +444,9 @@ public:
     blink_map *handle() noexcept { return &handle_; }
 
 private:
-    Map() = default;
+    struct Empty {};
+    explicit Map(Empty) {}
     detail::Handle<blink_map, blink_map_free> handle_;
-};
-
-// The right of one thread to read and change a growing map. Its calls wait while the map is renewed, and their changes renew it where it is full.
-class GrowingSession {
-public:
-    // Holds a session as long as it lives, so that calls find no renewal: a few calls at most, since the map can't be renewed meanwhile.
-    class Hold {
-    public:
-        explicit Hold(GrowingSession &session) : session_(&session) {
-            detail::check(blink_growing_session_hold_wait(&session.handle_));
-        }
-        Hold(const Hold &) = delete;
-        Hold &operator=(const Hold &) = delete;
-        ~Hold() { blink_growing_session_let_go(&session_->handle_); }
-
-    private:
-        GrowingSession *session_;
-    };
-    std::optional<Pointer> find(Key key) {
-        Answer answer{0, 0};
-        detail::check(blink_growing_session_find_wait(&handle_, key, &answer));
-        return detail::pointer_of(answer);
-    }
-    Answer insert(Key key, Pointer pointer) {
-        return ended([=](auto *it, Answer *answer) { return blink_growing_session_insert_wait(it, key, pointer, answer); });
-    }
-    Answer remove(Key key) {
-        return ended([=](auto *it, Answer *answer) { return blink_growing_session_delete_wait(it, key, answer); });
-    }
-    Answer replace(Key key, Pointer pointer) {
-        return ended([=](auto *it, Answer *answer) { return blink_growing_session_replace_wait(it, key, pointer, answer); });
-    }
-    Answer exchange(Key key, Pointer expected, Pointer pointer) {
-        return ended([=](auto *it, Answer *answer) { return blink_growing_session_exchange_wait(it, key, expected, pointer, answer); });
-    }
-    Answer remove_exact(Key key, Pointer expected) {
-        return ended([=](auto *it, Answer *answer) { return blink_growing_session_delete_exact_wait(it, key, expected, answer); });
-    }
-    // Maps the key to the pointer, and returns the one that was there.
-    std::optional<Pointer> put(Key key, Pointer pointer) {
-        return detail::pointer_of(ended([=](auto *it, Answer *answer) { return blink_growing_session_put_wait(it, key, pointer, answer); }));
-    }
-    std::vector<Entry> scan(Key lo, Key hi) {
-        return detail::scanned(&handle_, [](auto... all) { return blink_growing_session_scan_wait(all...); }, lo, hi);
-    }
-    // The same from the greatest key down.
-    std::vector<Entry> scan_back(Key lo, Key hi) {
-        return detail::scanned_back(&handle_, [](auto... all) { return blink_growing_session_scan_back_wait(all...); }, lo, hi);
-    }
-    std::optional<std::vector<Entry>> snapshot(Key lo, Key hi, std::uint32_t tries) {
-        return detail::snapshot(&handle_, [](auto... all) { return blink_growing_session_snapshot_wait(all...); }, lo, hi, tries);
-    }
-    Reserve reserve() {
-        Reserve reserve{0, 0, 0, 0, 0};
-        detail::check(blink_growing_session_reserve_wait(&handle_, &reserve));
-        return reserve;
-    }
-    blink_growing_session *handle() noexcept { return &handle_; }
-
-private:
-    friend class GrowingMap;
-    GrowingSession() = default;
-    template <class Call> Answer ended(Call call) {
-        Answer answer{0, 0};
-        detail::check(call(&handle_, &answer));
-        return answer;
-    }
-    detail::Handle<blink_growing_session, blink_growing_session_free> handle_;
-};
-
-// A map that has no room to be told: where it is full it goes on in a larger one. One thread at a time uses an object of it, so another one
-// that joins needs one of its own, by share.
-class GrowingMap {
-public:
-    GrowingMap(Index &index, std::uint32_t sessions) { detail::check(blink_growing_open(&index.handle_, sessions, &handle_)); }
-    // Has this room for its first changes. If that is fixed, the map is never renewed, so no call waits for a copy, and a change that finds
-    // it full has error BLINK_FULL.
-    GrowingMap(Index &index, Room room, bool fixed = false) {
-        detail::check(blink_growing_open_with_room(&index.handle_, room.pages, room.rows, room.sessions, fixed, &handle_));
-    }
-    GrowingMap share() {
-        GrowingMap map;
-        detail::check(blink_growing_share(&handle_, &map.handle_));
-        return map;
-    }
-    GrowingSession join() {
-        GrowingSession session;
-        detail::check(blink_growing_join(&handle_, &session.handle_));
-        return session;
-    }
-    // Renews it in good time. Error BLINK_RENEWING, if a session is held or in a call at each of so many looks, leaves it as it was.
-    void renew(std::uint32_t looks = BLINK_TRIES) { detail::check(blink_growing_renew(&handle_, looks)); }
-    // Gives the index of all entries, once each session and each other object of the map is destroyed. A refused close may be called
-    // again, and has lost nothing.
-    Index close() {
-        Index index{Index::Empty()};
-        detail::check(blink_growing_close(&handle_, &index.handle_));
-        return index;
-    }
-    blink_growing *handle() noexcept { return &handle_; }
-
-private:
-    GrowingMap() = default;
-    detail::Handle<blink_growing, blink_growing_free> handle_;
 };
 
 // The right of one thread to change keys of its own in a table, and to look at all keys.
@@ -585,8 +494,7 @@ private:
     Answer ended(int code) {
         detail::check(code);
         Answer answer{0, 0};
-        while ((code = blink_pass_advance(&handle_, detail::most_in_vain, &answer)) == BLINK_PENDING) std::this_thread::yield();
-        detail::check(code);
+        detail::check(blink_pass_finish(&handle_, &answer));
         return answer;
     }
     detail::Handle<blink_pass, blink_pass_free> handle_;

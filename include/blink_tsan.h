@@ -54,9 +54,14 @@ static inline void blink_tsan_read(const blink_entry *entries, uint64_t count) {
         if (code == BLINK_DONE) blink_tsan_read(entries, scanned->filled);                                                                 \
         return code;                                                                                                                       \
     }
-#define BLINK_TSAN_RANGES(kind)                                                                                                            \
-    BLINK_TSAN_SCANS(kind##_scan, blink_##kind)                                                                                            \
-    BLINK_TSAN_SCANS(kind##_scan_back, blink_##kind)                                                                                       \
+#define BLINK_TSAN_TRIED_SCANS(name, handle)                                                                                               \
+    static inline blink_tsan_code blink_tsan_##name(handle *it, uint64_t lo, uint64_t hi, uint32_t tries, blink_entry *entries,            \
+                                                    size_t places, blink_scanned *scanned) {                                               \
+        blink_tsan_code code = blink_##name(it, lo, hi, tries, entries, places, scanned);                                                  \
+        if (code == BLINK_DONE) blink_tsan_read(entries, scanned->filled);                                                                 \
+        return code;                                                                                                                       \
+    }
+#define BLINK_TSAN_SNAPSHOTS(kind)                                                                                                         \
     static inline blink_tsan_code blink_tsan_##kind##_snapshot(blink_##kind *it, uint64_t lo, uint64_t hi, uint32_t tries,                 \
                                                                blink_entry *entries, size_t places, blink_taken *taken) {                  \
         blink_tsan_code code = blink_##kind##_snapshot(it, lo, hi, tries, entries, places, taken);                                         \
@@ -70,7 +75,9 @@ BLINK_TSAN_BEGINS(pass_begin_exchange, (blink_pass *it, uint64_t key, uint64_t e
 BLINK_TSAN_ANSWERS(pass_advance, (blink_pass *it, uint32_t tries, blink_answer *answer), (it, tries, answer))
 BLINK_TSAN_ANSWERS(pass_find, (blink_pass *it, uint64_t key, blink_answer *answer), (it, key, answer))
 BLINK_TSAN_ANSWERS(pass_glance, (blink_pass *it, uint64_t key, blink_answer *answer), (it, key, answer))
-BLINK_TSAN_RANGES(pass)
+BLINK_TSAN_SCANS(pass_scan, blink_pass)
+BLINK_TSAN_SCANS(pass_scan_back, blink_pass)
+BLINK_TSAN_SNAPSHOTS(pass)
 BLINK_TSAN_STORES(session_insert, (blink_session *it, uint64_t key, uint64_t pointer, uint32_t tries, blink_answer *answer),
                   (it, key, pointer, tries, answer))
 BLINK_TSAN_STORES(session_replace, (blink_session *it, uint64_t key, uint64_t pointer, uint32_t tries, blink_answer *answer),
@@ -84,38 +91,10 @@ BLINK_TSAN_ANSWERS(session_delete, (blink_session *it, uint64_t key, uint32_t tr
 BLINK_TSAN_ANSWERS(session_delete_exact, (blink_session *it, uint64_t key, uint64_t expected, uint32_t tries, blink_answer *answer),
                    (it, key, expected, tries, answer))
 BLINK_TSAN_ANSWERS(session_advance, (blink_session *it, uint32_t tries, blink_answer *answer), (it, tries, answer))
-BLINK_TSAN_ANSWERS(session_find, (blink_session *it, uint64_t key, blink_answer *answer), (it, key, answer))
-BLINK_TSAN_RANGES(session)
-#define BLINK_TSAN_SCANS_GROWING(name)                                                                                                     \
-    static inline blink_tsan_code blink_tsan_growing_session_##name(blink_growing_session *it, uint64_t lo, uint64_t hi, uint32_t tries,   \
-                                                                    blink_entry *entries, size_t places, blink_scanned *scanned) {         \
-        blink_tsan_code code = blink_growing_session_##name(it, lo, hi, tries, entries, places, scanned);                                  \
-        if (code == BLINK_DONE) blink_tsan_read(entries, scanned->filled);                                                                 \
-        return code;                                                                                                                       \
-    }
-BLINK_TSAN_STORES(growing_session_insert, (blink_growing_session *it, uint64_t key, uint64_t pointer, uint32_t tries, blink_answer *answer),
-                  (it, key, pointer, tries, answer))
-BLINK_TSAN_STORES(growing_session_replace, (blink_growing_session *it, uint64_t key, uint64_t pointer, uint32_t tries, blink_answer *answer),
-                  (it, key, pointer, tries, answer))
-BLINK_TSAN_STORES(growing_session_exchange,
-                  (blink_growing_session *it, uint64_t key, uint64_t expected, uint64_t pointer, uint32_t tries, blink_answer *answer),
-                  (it, key, expected, pointer, tries, answer))
-BLINK_TSAN_ANSWERS(growing_session_delete, (blink_growing_session *it, uint64_t key, uint32_t tries, blink_answer *answer),
-                   (it, key, tries, answer))
-BLINK_TSAN_ANSWERS(growing_session_delete_exact,
-                   (blink_growing_session *it, uint64_t key, uint64_t expected, uint32_t tries, blink_answer *answer),
-                   (it, key, expected, tries, answer))
-BLINK_TSAN_ANSWERS(growing_session_advance, (blink_growing_session *it, uint32_t tries, blink_answer *answer), (it, tries, answer))
-BLINK_TSAN_ANSWERS(growing_session_find, (blink_growing_session *it, uint64_t key, uint32_t tries, blink_answer *answer),
-                   (it, key, tries, answer))
-BLINK_TSAN_SCANS_GROWING(scan)
-BLINK_TSAN_SCANS_GROWING(scan_back)
-static inline blink_tsan_code blink_tsan_growing_session_snapshot(blink_growing_session *it, uint64_t lo, uint64_t hi, uint32_t tries,
-                                                                  blink_entry *entries, size_t places, blink_taken *taken) {
-    blink_tsan_code code = blink_growing_session_snapshot(it, lo, hi, tries, entries, places, taken);
-    if (code == BLINK_DONE) blink_tsan_read(entries, taken->there < places ? taken->there : places);
-    return code;
-}
+BLINK_TSAN_ANSWERS(session_find, (blink_session *it, uint64_t key, uint32_t tries, blink_answer *answer), (it, key, tries, answer))
+BLINK_TSAN_TRIED_SCANS(session_scan, blink_session)
+BLINK_TSAN_TRIED_SCANS(session_scan_back, blink_session)
+BLINK_TSAN_SNAPSHOTS(session)
 
 #define blink_pass_begin_insert(...) blink_tsan_pass_begin_insert(__VA_ARGS__)
 #define blink_pass_begin_replace(...) blink_tsan_pass_begin_replace(__VA_ARGS__)
@@ -137,16 +116,6 @@ static inline blink_tsan_code blink_tsan_growing_session_snapshot(blink_growing_
 #define blink_session_scan(...) blink_tsan_session_scan(__VA_ARGS__)
 #define blink_session_scan_back(...) blink_tsan_session_scan_back(__VA_ARGS__)
 #define blink_session_snapshot(...) blink_tsan_session_snapshot(__VA_ARGS__)
-#define blink_growing_session_insert(...) blink_tsan_growing_session_insert(__VA_ARGS__)
-#define blink_growing_session_replace(...) blink_tsan_growing_session_replace(__VA_ARGS__)
-#define blink_growing_session_exchange(...) blink_tsan_growing_session_exchange(__VA_ARGS__)
-#define blink_growing_session_delete(...) blink_tsan_growing_session_delete(__VA_ARGS__)
-#define blink_growing_session_delete_exact(...) blink_tsan_growing_session_delete_exact(__VA_ARGS__)
-#define blink_growing_session_advance(...) blink_tsan_growing_session_advance(__VA_ARGS__)
-#define blink_growing_session_find(...) blink_tsan_growing_session_find(__VA_ARGS__)
-#define blink_growing_session_scan(...) blink_tsan_growing_session_scan(__VA_ARGS__)
-#define blink_growing_session_scan_back(...) blink_tsan_growing_session_scan_back(__VA_ARGS__)
-#define blink_growing_session_snapshot(...) blink_tsan_growing_session_snapshot(__VA_ARGS__)
 
 #ifdef __cplusplus
 }

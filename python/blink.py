@@ -1,4 +1,4 @@
-"""blink.h for Python, by ctypes: an index, readers, a map, a growing map and a table, whose keys and pointers are integers from 0 to 2**64 - 1.
+"""blink.h for Python, by ctypes: an index, readers, a map and a table, whose keys and pointers are integers from 0 to 2**64 - 1.
 
 This file is the whole module; copy it beside your program, or name its folder by PYTHONPATH. It loads libblink.so.0, which ./libblink
 builds: from the folder that the environment names as BLINK_LIB_DIR, and from no other; or, where that isn't set, from `out` of the
@@ -10,7 +10,7 @@ object has a lock, so that threads which use it at once wait for each other; so 
 closed raises ValueError.
 
     index = blink.Index(entries=[(7, 70)])
-    shared = blink.Map(index, *blink.room_for(index, insertions=1_000, sessions=2))
+    shared = blink.Map(index)
     with shared.join() as session:
         session.put(8, 80)
     index = shared.close()
@@ -53,14 +53,14 @@ _MESSAGES = {
 
 #: What a call found or did: one of ABSENT to REPLACED, and the pointer, or 0 where the answer tells none.
 Answer = namedtuple("Answer", "kind pointer")
-#: What a map has beside its entries, as `Map` takes it: page numbers, rows, and places for sessions.
+#: What a map has beside its entries, as `Map.with_room` takes it: page numbers, rows, and sessions.
 Room = namedtuple("Room", "pages rows sessions")
 #: What a session has of its map's page numbers and rows.
 Reserve = namedtuple("Reserve", "pages unwritten free taken_out waiting")
 
 # How many steps in vain an operation takes before its thread yields: BLINK_TRIES of blink.h, which says what they cost.
 _TRIES = 100
-# The most that a change of a growing map has: BLINK_MOST_TRIES.
+# The most that a change of a map has which couldn't be renewed: BLINK_MOST_TRIES.
 _MOST_TRIES = 1_000_000
 
 
@@ -128,52 +128,40 @@ def _declared():
     yield "blink_index_share", CODE, handle, handle
     yield "blink_reader_join", CODE, handle, handle
     yield "blink_reader_unshare", CODE, handle, handle
-    yield "blink_map_open_unnamed", CODE, handle, u32, u32, u32, handle, keys
+    yield "blink_map_open_unnamed", CODE, handle, handle, keys
+    yield "blink_map_open_with_room_unnamed", CODE, handle, u32, u32, u32, truth, handle, keys
     yield "blink_map_name", None, handle, u64
     yield "blink_map_join_alone", CODE, handle, handle
-    yield "blink_map_room_alone", None, handle, keys, keys
+    yield "blink_map_room_alone", CODE, handle, u32, keys, keys
+    yield "blink_map_renew", CODE, handle, u32
     yield "blink_table_open_unnamed", CODE, handle, u32, u32, handle, keys
     yield "blink_table_name", None, handle, u64
     yield "blink_table_deal", CODE, handle, keys, size, u32, u32, handle, keys
     yield "blink_table_return", CODE, handle, handle
     yield "blink_map_close", CODE, handle, handle
     yield "blink_table_close", CODE, _Handle, handle
-    for it in "session", "pass":
-        yield f"blink_{it}_find", CODE, handle, u64, answer
-        yield f"blink_{it}_scan", CODE, handle, u64, u64, entry, size, scanned
-        yield f"blink_{it}_scan_back", CODE, handle, u64, u64, entry, size, scanned
+    # a call of a session has a number of tries, where one of a pass mostly has none
+    for it, *tries in ("session", u32), ("pass",):
+        yield f"blink_{it}_find", CODE, handle, u64, *tries, answer
+        yield f"blink_{it}_scan", CODE, handle, u64, u64, *tries, entry, size, scanned
+        yield f"blink_{it}_scan_back", CODE, handle, u64, u64, *tries, entry, size, scanned
         yield f"blink_{it}_snapshot", CODE, handle, u64, u64, u32, entry, size, taken
-        yield f"blink_{it}_tell", CODE, handle, handle
+        yield f"blink_{it}_tell", CODE, handle, handle, *tries
         yield f"blink_{it}_advance", CODE, handle, u32, answer
     for it in "insert", "replace", "delete_exact", "put":
         yield f"blink_session_{it}", CODE, handle, u64, u64, u32, answer
     yield "blink_session_delete", CODE, handle, u64, u32, answer
     yield "blink_session_exchange", CODE, handle, u64, u64, u64, u32, answer
-    yield "blink_session_reserve", CODE, handle, reserve
+    yield "blink_session_hold", CODE, handle, u32
+    yield "blink_session_let_go", None, handle
+    yield "blink_session_reserve", CODE, handle, u32, reserve
     yield "blink_pass_glance", CODE, handle, u64, answer
     yield "blink_pass_transfer", CODE, handle, handle, keys, size, keys
     for it in "insert", "replace", "delete_exact":
         yield f"blink_pass_begin_{it}", CODE, handle, u64, u64
     yield "blink_pass_begin_delete", CODE, handle, u64
     yield "blink_pass_begin_exchange", CODE, handle, u64, u64, u64
-    yield "blink_growing_open", CODE, handle, u32, handle
-    yield "blink_growing_open_with_room", CODE, handle, u32, u32, u32, truth, handle
-    yield "blink_growing_join", CODE, handle, handle
-    yield "blink_growing_renew", CODE, handle, u32
-    yield "blink_growing_close", CODE, handle, handle
-    yield "blink_growing_session_find", CODE, handle, u64, u32, answer
-    for it in "scan", "scan_back":
-        yield f"blink_growing_session_{it}", CODE, handle, u64, u64, u32, entry, size, scanned
-    yield "blink_growing_session_snapshot", CODE, handle, u64, u64, u32, entry, size, taken
-    for it in "insert", "replace", "delete_exact":
-        yield f"blink_growing_session_{it}", CODE, handle, u64, u64, u32, answer
-    yield "blink_growing_session_delete", CODE, handle, u64, u32, answer
-    yield "blink_growing_session_exchange", CODE, handle, u64, u64, u64, u32, answer
-    yield "blink_growing_session_advance", CODE, handle, u32, answer
-    yield "blink_growing_session_hold", CODE, handle, u32
-    yield "blink_growing_session_let_go", None, handle
-    yield "blink_growing_session_reserve", CODE, handle, u32, reserve
-    for it in "index", "reader", "map", "session", "table", "pass", "growing", "growing_session":
+    for it in "index", "reader", "map", "session", "table", "pass":
         yield f"blink_{it}_free", None, _Handle
 
 
@@ -243,6 +231,8 @@ class _Owner:
 
     _kind = None
     _free = None
+    # What a call has behind its keys: of a session the number of its tries, of others nothing.
+    _tries = ()
 
     def __init_subclass__(cls):
         if cls._kind:
@@ -258,13 +248,20 @@ class _Owner:
             self._is_open()
             return getattr(_library, f"blink_{self._kind}_{name}")(self._handle, *values)
 
+    def _waits(self, name, *values):
+        """The same until the map isn't being renewed; of what is no session one call is enough."""
+        with self._lock:
+            while (code := self._call(name, *values)) == CODES["RENEWING"]:
+                time.sleep(0)
+            return code
+
     def _scan(self, lo, hi, most=_MOST):
         """The first entries of a range, at most so many, part by part."""
-        return self._parts(lo, most, lambda key, *part: self._call("scan", key, hi, *part))
+        return self._parts(lo, most, lambda key, *part: self._waits("scan", key, hi, *self._tries, *part))
 
     def _scan_back(self, lo, hi, most=_MOST):
         """The last ones, the greatest first."""
-        return self._parts(hi, most, lambda key, *part: self._call("scan_back", lo, key, *part))
+        return self._parts(hi, most, lambda key, *part: self._waits("scan_back", lo, key, *self._tries, *part))
 
     def _parts(self, key, most, scan):
         """What `scan` gives from a key on, and then from each key that it tells."""
@@ -476,12 +473,12 @@ class Reader(_Reads):
         return Index._filled(lambda out: self._call("unshare", out))
 
 
-class _Ranges(_Owner):
-    """What sessions and passes read."""
+class _Seat(_Owner, _Updates):
+    """What sessions and passes have in common. A change has the lock throughout, so that nothing comes between two steps."""
 
     def _found(self, name, key):
         answer = _Answer()
-        _check(self._call(name, _number(key), answer))
+        _check(self._waits(name, _number(key), *self._tries, answer))
         return answer.pointer if answer.kind == FOUND else None
 
     def find(self, key):
@@ -501,125 +498,37 @@ class _Ranges(_Owner):
         places, lo, hi, tries = 256, _number(lo), _number(hi), _number(tries, 32)
         while True:
             entries, taken = (_Entry * places)(), _Taken()
-            _check(self._snapshot(lo, hi, tries, entries, places, taken))
+            _check(self._waits("snapshot", lo, hi, tries, entries, places, taken))
             if not taken.taken:
                 return None
             if taken.there <= places:
                 return _pairs(entries, taken.there)
             places = taken.there
 
-    def _snapshot(self, *values):
-        return self._call("snapshot", *values)
-
-
-class _Seat(_Ranges):
-    """What the sessions of a map and passes have in common. Callers hold the lock throughout, so that nothing comes between two steps."""
+    def _with(self, other, name, *values):
+        """Calls a function of this one and another."""
+        # Of two locks the one with the lower address comes first, wherever two name each other at once.
+        first, second = sorted((self, other), key=id)
+        with first._lock, second._lock:
+            other._is_open()
+            _check(self._waits(name, other._handle, *values))
 
     def tell(self, other):
         """Tells the other one what this one has seen."""
         if type(other) is not type(self) or other is self:
             raise TypeError(f"another {type(self).__name__} is told")
-        # Of two locks the one with the lower address comes first, wherever two tell each other at once.
-        first, second = sorted((self, other), key=id)
-        with first._lock, second._lock:
-            other._is_open()
-            _check(self._call("tell", other._handle))
-
-    def _ends(self, begin, code):
-        """Goes on until the operation has ended. `begin` begins it again where rows are on their way back."""
-        answer = _Answer()
-        with self._lock:
-            while True:
-                code = begin(answer) if code is None else self._call("advance", _TRIES, answer)
-                if code == CODES["PENDING"]:
-                    time.sleep(0)
-                elif code == CODES["ROWS_BUSY"]:
-                    code = None
-                    time.sleep(0)
-                else:
-                    _check(code)
-                    return Answer(answer.kind, answer.pointer)
+        self._with(other, "tell", *self._tries)
 
 
-class Session(_Seat, _Updates):
-    """The right to read and change a map, for a thread. `Map.join` gives it; its place is free again once it is freed."""
+class Session(_Seat):
+    """The right to read and change a map, for a thread. `Map.join` gives it; its place is free again once it is freed. Its calls wait while
+    the map is renewed, and its changes renew it where it is full."""
 
     _kind = "session"
+    _tries = (_TRIES,)
 
     def __init__(self):
         raise TypeError("Map.join gives sessions")
-
-    def _changes(self, name, *values):
-        values = [_number(value) for value in values]
-        return self._ends(lambda answer: self._call(name, *values, _TRIES, answer), None)
-
-    def put(self, key, pointer):
-        """Maps the key to the pointer, and returns the pointer that was there, or None."""
-        answer = self._changes("put", key, pointer)
-        return answer.pointer if answer.kind == REPLACED else None
-
-    def reserve(self):
-        reserve = _Reserve()
-        _check(self._call("reserve", reserve))
-        return Reserve(*(getattr(reserve, field) for field in Reserve._fields))
-
-
-class Map(_Owner):
-    """The entries of an index, which threads change together, each by a session. `room_for` works out pages and rows."""
-
-    _kind = "map"
-
-    def __init__(self, index, pages, rows, sessions):
-        super().__init__()
-        room = [_number(it, 32) for it in (pages, rows, sessions)]
-        _opens(index, "blink_map", *room, self._handle)
-
-    def join(self):
-        return Session._filled(lambda out: self._call("join_alone", out))
-
-    def room(self):
-        """What the pool has left: page numbers, and rows."""
-        rows, pages = ctypes.c_uint64(), ctypes.c_uint64()
-        self._call("room_alone", rows, pages)
-        return pages.value, rows.value
-
-    def close(self):
-        """Gives the index of all entries, once each session is freed. A refused close may be called again, and has lost
-        nothing."""
-        index = Index._filled(lambda out: self._call("close", out))
-        self.free()
-        return index
-
-
-class GrowingSession(_Ranges, _Updates):
-    """The right to read and change a growing map, for a thread. `GrowingMap.join` gives it; its place is free again once it is freed. Its
-    calls wait while the map is renewed, and its changes renew it where it is full."""
-
-    _kind = "growing_session"
-
-    def __init__(self):
-        raise TypeError("GrowingMap.join gives sessions")
-
-    def _waits(self, call):
-        """Calls with so many tries until the map isn't renewed meanwhile, and returns the code."""
-        with self._lock:
-            while (code := call(_TRIES)) == CODES["RENEWING"]:
-                time.sleep(0)
-            return code
-
-    def _found(self, name, key):
-        key, answer = _number(key), _Answer()
-        _check(self._waits(lambda tries: self._call(name, key, tries, answer)))
-        return answer.pointer if answer.kind == FOUND else None
-
-    def _scan(self, lo, hi, most=_MOST):
-        return self._parts(lo, most, lambda key, *part: self._waits(lambda tries: self._call("scan", key, hi, tries, *part)))
-
-    def _scan_back(self, lo, hi, most=_MOST):
-        return self._parts(hi, most, lambda key, *part: self._waits(lambda tries: self._call("scan_back", lo, key, tries, *part)))
-
-    def _snapshot(self, *values):
-        return self._waits(lambda tries: self._call("snapshot", *values))
 
     def _changes(self, name, *values):
         """As the functions of blink.h that wait: where the map can't be renewed, each new try looks ten times as often, up to _MOST_TRIES."""
@@ -638,57 +547,49 @@ class GrowingSession(_Ranges, _Updates):
 
     def put(self, key, pointer):
         """Maps the key to the pointer, and returns the pointer that was there, or None."""
-        while True:
-            answer = self.replace(key, pointer)
-            if answer.kind == REPLACED:
-                return answer.pointer
-            if self.insert(key, pointer).kind == INSERTED:
-                return None
+        answer = self._changes("put", key, pointer)
+        return answer.pointer if answer.kind == REPLACED else None
 
     def reserve(self):
         reserve = _Reserve()
-        _check(self._waits(lambda tries: self._call("reserve", tries, reserve)))
+        _check(self._waits("reserve", _TRIES, reserve))
         return Reserve(*(getattr(reserve, field) for field in Reserve._fields))
 
     @contextlib.contextmanager
     def hold(self):
         """Holds the session, so that its calls find no renewal: a few calls at most, since the map can't be renewed meanwhile."""
         with self._lock:
-            _check(self._waits(lambda tries: self._call("hold", tries)))
+            _check(self._waits("hold", _TRIES))
             try:
                 yield self
             finally:
                 self._call("let_go")
 
 
-class GrowingMap(_Owner):
-    """The entries of an index, which threads change together, each by a session. It has no room to be told: where it is full it goes on in
-    a larger one."""
+class Map(_Owner):
+    """The entries of an index, or none, which threads change together, each by a session. Where it is full it goes on in a larger one."""
 
-    _kind = "growing"
+    _kind = "map"
 
-    def __init__(self, index, sessions):
+    def __init__(self, index=None):
         super().__init__()
-        sessions = _number(sessions, 32)
-        if type(index) is not Index:
-            raise TypeError("it is opened over an Index")
-        with index._lock:
-            index._is_open()
-            _check(_library.blink_growing_open(index._handle, sessions, self._handle))
+        _check(_opens(Index() if index is None else index, "map_open", self._handle))
 
     @classmethod
     def with_room(cls, index, pages, rows, sessions, fixed=False):
         """With this room for its first changes; `room_for` works out pages and rows. If that is fixed, the map is never renewed, so no call
         waits for a copy, and a change that finds it full has error FULL."""
         room = [_number(it, 32) for it in (pages, rows, sessions)]
-        if type(index) is not Index:
-            raise TypeError("it is opened over an Index")
-        with index._lock:
-            index._is_open()
-            return cls._filled(lambda out: _library.blink_growing_open_with_room(index._handle, *room, bool(fixed), out))
+        return cls._filled(lambda out: _opens(index, "map_open_with_room", *room, bool(fixed), out))
 
     def join(self):
-        return GrowingSession._filled(lambda out: self._call("join", out))
+        return Session._filled(lambda out: self._call("join_alone", out))
+
+    def room(self):
+        """What the pool has left: page numbers, and rows. Error RENEWING, if each session is held or in a call, or the map is being renewed."""
+        rows, pages = ctypes.c_uint64(), ctypes.c_uint64()
+        _check(self._call("room_alone", _TRIES, rows, pages))
+        return pages.value, rows.value
 
     def renew(self, looks=_TRIES):
         """Renews it in good time. Error RENEWING, if a session is held or in a call at each of so many looks, leaves it as it was."""
@@ -702,7 +603,7 @@ class GrowingMap(_Owner):
         return index
 
 
-class Pass(_Seat, _Updates):
+class Pass(_Seat):
     """The right to change some keys of a table, and to look at all, for a thread. `Table.deal` gives it."""
 
     _kind = "pass"
@@ -715,10 +616,13 @@ class Pass(_Seat, _Updates):
         return self._found("glance", key)
 
     def _changes(self, name, *values):
+        values, answer = [_number(value) for value in values], _Answer()
         with self._lock:
-            code = self._call(f"begin_{name}", *map(_number, values))
+            _check(self._call(f"begin_{name}", *values))
+            while (code := self._call("advance", _TRIES, answer)) == CODES["PENDING"]:
+                time.sleep(0)
             _check(code)
-            return self._ends(None, code)
+            return Answer(answer.kind, answer.pointer)
 
     def transfer(self, other, keys):
         """Hands keys to the other pass. Error TRANSFER_NOT_YOURS has the first bad key as `key`."""
@@ -726,11 +630,8 @@ class Pass(_Seat, _Updates):
             raise TypeError("keys are handed to another Pass")
         keys, count = _numbers_of(keys)
         bad = ctypes.c_uint64()
-        first, second = sorted((self, other), key=id)
         try:
-            with first._lock, second._lock:
-                other._is_open()
-                _check(self._call("transfer", other._handle, keys, count, bad))
+            self._with(other, "transfer", keys, count, bad)
         except Error as error:
             if error.name == "TRANSFER_NOT_YOURS":
                 error.key = bad.value
@@ -744,7 +645,7 @@ class Table(_Owner):
 
     def __init__(self, index, inserts, deletes):
         super().__init__()
-        _opens(index, "blink_table", _number(inserts, 32), _number(deletes, 32), self._handle)
+        _check(_opens(index, "table_open", _number(inserts, 32), _number(deletes, 32), self._handle))
 
     def deal(self, keys, inserts, deletes):
         """Gives a pass with these keys, and room for so many changes. Error TAKEN has the first bad key as `key`."""
@@ -783,13 +684,15 @@ def room_for(index, insertions, sessions):
     return Room(min(pages, most), min(rows, most), sessions)
 
 
-def _opens(index, kind, *values):
-    """Opens a map or a table, and names it by its place in memory, where no other lies while it lives."""
+def _opens(index, call, *values):
+    """Opens a map or a table, and names it by its place in memory, where no other lies while it lives. Returns the code."""
     *_room, out = values
     place = ctypes.c_uint64()
     if type(index) is not Index:
         raise TypeError("it is opened over an Index")
     with index._lock:
         index._is_open()
-        _check(getattr(_library, f"{kind}_open_unnamed")(index._handle, *values, place))
-    getattr(_library, f"{kind}_name")(out, place)
+        code = getattr(_library, f"blink_{call}_unnamed")(index._handle, *values, place)
+    if code == CODES["DONE"]:
+        getattr(_library, f"blink_{call.split('_')[0]}_name")(out, place)
+    return code

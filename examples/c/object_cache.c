@@ -62,7 +62,7 @@ static void retire(struct worker *self, uint64_t pointer) {
 static void read_object(struct worker *self, uint64_t key) {
     blink_answer there;
     blink_guard_hold(self->guard);
-    expect(blink_session_find(&self->session, key, &there));
+    expect(blink_session_find_wait(&self->session, key, &there));
     if (there.kind == BLINK_FOUND) {
         struct object *object = (struct object *)(uintptr_t)there.pointer;
         if (object->key != key) exit(fprintf(stderr, "another object\n"));
@@ -106,10 +106,7 @@ int main(void) {
     blink_index index = {NULL};
     blink_map map = {NULL};
     expect(blink_index_new(32, &index));
-    // room for each key once is enough, however often its object comes and goes
-    uint32_t pages, rows;
-    blink_room_for(&index, KEYS, THREADS, &pages, &rows);
-    expect(blink_map_open(&index, pages, rows, THREADS, &map));
+    expect(blink_map_open(&index, &map));
     blink_index_free(index);
     for (int i = 0; i < THREADS; i++) {
         struct worker *it = &workers[i];

@@ -71,7 +71,7 @@ static void one_turn(struct worker *self) {
         reads_answer(self, article, code, answer);
         break;
     case 2:
-        expect(blink_session_find(market, article, &answer) == BLINK_DONE, "a find is refused");
+        expect(blink_session_find_wait(market, article, &answer) == BLINK_DONE, "a find is refused");
         if (answer.kind != BLINK_FOUND) break;
         reads(self, article, answer.pointer);
         // a better one, if nobody has put another since
@@ -80,16 +80,16 @@ static void one_turn(struct worker *self) {
         reads_answer(self, article, code, answer);
         break;
     case 3:
-        expect(blink_session_scan(market, article, article + PART, part, PART, &scanned) == BLINK_DONE, "a scan is refused");
+        expect(blink_session_scan_wait(market, article, article + PART, part, PART, &scanned) == BLINK_DONE, "a scan is refused");
         for (uint64_t i = 0; i < scanned.filled; i++) reads(self, part[i].key, part[i].pointer);
         break;
     case 4:
-        expect(blink_session_snapshot(market, article, article + 3, 5, part, PART, &taken) == BLINK_DONE, "a snapshot is refused");
+        expect(blink_session_snapshot_wait(market, article, article + 3, 5, part, PART, &taken) == BLINK_DONE, "a snapshot is refused");
         for (uint64_t i = 0; i < taken.there; i++) reads(self, part[i].key, part[i].pointer);
         self->taken += taken.taken;
         break;
     case 5:
-        expect(blink_session_find(market, article, &answer) == BLINK_DONE, "a find is refused");
+        expect(blink_session_find_wait(market, article, &answer) == BLINK_DONE, "a find is refused");
         if (answer.kind == BLINK_FOUND) reads(self, article, answer.pointer);
         break;
     }
@@ -132,7 +132,7 @@ int main(int argc, char **argv) {
     blink_table table = {NULL};
     uint64_t articles[ARTICLES + THREADS], refused, read = 0;
     expect(blink_index_new(8, &index) == BLINK_DONE, "no index");
-    expect(blink_map_open(&index, 20000, 80000, THREADS, &map) == BLINK_DONE, "no map");
+    expect(blink_map_open(&index, &map) == BLINK_DONE, "no map");
     for (int i = 0; i < THREADS; i++) {
         workers[i].random = (uint64_t)i + 1;
         expect(blink_map_join(&map, &workers[i].market) == BLINK_DONE, "no session");

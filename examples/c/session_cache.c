@@ -29,7 +29,7 @@ static bool removes(blink_session *cache, uint64_t user) {
 // A user's request for a page, at this time. The user may be served by other threads too.
 static void show_page(struct worker *self, uint64_t user, uint64_t now) {
     blink_answer there, answer;
-    expect(blink_session_find(&self->cache, user, &there));
+    expect(blink_session_find_wait(&self->cache, user, &there));
     // of two threads that find it run out one removes it
     if (there.kind == BLINK_FOUND && there.pointer + IDLE < now && removes(&self->cache, user)) self->expiries++;
     expect(blink_session_put_wait(&self->cache, user, now, &answer));
@@ -54,12 +54,8 @@ int main(void) {
     blink_map map = {NULL};
     struct worker workers[THREADS] = {0};
     pthread_t threads[THREADS];
-    // room for each user's key once is enough, however often users come and go: a leaf has place for all users whose keys belong there,
-    // once these are 32 or fewer, and is split no more
-    uint32_t room_pages, rows;
     expect(blink_index_new(32, &index));
-    blink_room_for(&index, USERS, THREADS, &room_pages, &rows);
-    expect(blink_map_open(&index, room_pages, rows, THREADS, &map));
+    expect(blink_map_open(&index, &map));
     blink_index_free(index);
     for (int i = 0; i < THREADS; i++) {
         workers[i].random = (uint64_t)i + 1;

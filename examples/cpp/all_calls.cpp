@@ -1,7 +1,8 @@
-// Uses each type of blink.hpp: an index, readers in two threads, a map that eight threads change, a growing map, and a table. Run: all_calls
+// Uses each type of blink.hpp: an index, readers in two threads, maps that eight threads change, and a table. Run: all_calls
 #include <blink.hpp>
 #include <cstdio>
 #include <cstdlib>
+#include <thread>
 
 #define CHECK(holds) ((holds) ? (void)0 : fail(#holds, __LINE__))
 
@@ -72,27 +73,31 @@ static void shares_an_index() {
     CHECK(is(index.insert(3, 30), BLINK_INSERTED, 0));
 }
 
-// Eight threads add to the same hundred keys, each three hundred times a key: no addition is lost.
+// Runs this in so many threads, each with a session of its own.
+template <class Work> static void in_threads(blink::Map &map, int count, Work work) {
+    std::vector<std::thread> threads;
+    for (int i = 0; i < count; i++) threads.emplace_back([work, session = map.join()]() mutable { work(session); });
+    for (auto &thread : threads) thread.join();
+}
+
+// Eight threads add to the same hundred keys, each three hundred times a key: no addition is lost. The map has room for all that is done.
 static void shares_a_map() {
     enum { THREADS = 8, KEYS = 100, TURNS = 300 };
     blink::Index index(16);
     blink::Room room = blink::Room::for_insertions(index, KEYS + 2000, THREADS);
     CHECK(room.pages == 1009 && room.rows == 2 * room.pages + 300 * THREADS && room.sessions == THREADS);
-    blink::Map map(index, room);
-    std::vector<std::thread> threads;
-    for (int i = 0; i < THREADS; i++)
-        threads.emplace_back([session = map.join()]() mutable {
-            for (std::uint64_t turn = 0; turn < TURNS * KEYS; turn++) {
-                std::uint64_t key = turn % KEYS;
-                for (auto there = session.find(key);;) {
-                    blink::Answer answer = there ? session.exchange(key, *there, *there + 1) : session.insert(key, 1);
-                    if (answer.kind == BLINK_REPLACED || answer.kind == BLINK_INSERTED) break;
-                    there = answer.pointer;
-                }
+    blink::Map map(index, room, true);
+    CHECK(map.room().pages == room.pages && map.room().rows == room.rows);
+    in_threads(map, THREADS, [](blink::Session &session) {
+        for (std::uint64_t turn = 0; turn < TURNS * KEYS; turn++) {
+            std::uint64_t key = turn % KEYS;
+            for (auto there = session.find(key);;) {
+                blink::Answer answer = there ? session.exchange(key, *there, *there + 1) : session.insert(key, 1);
+                if (answer.kind == BLINK_REPLACED || answer.kind == BLINK_INSERTED) break;
+                there = answer.pointer;
             }
-        });
-    for (auto &thread : threads) thread.join();
-    threads.clear();
+        }
+    });
     blink::Session one = map.join(), other = map.join();
     CHECK(one.put(5, 7) == THREADS * TURNS && !one.put(KEYS, 8) && is(one.replace(KEYS, 9), BLINK_REPLACED, 8));
     one.tell(other);
@@ -103,6 +108,8 @@ static void shares_a_map() {
     CHECK(other.scan_back(0, 5000).size() == KEYS + 1000 && other.scan_back(0, 5000)[999].key == 1000);
     CHECK(other.snapshot(0, 5000, 10)->size() == KEYS + 1000 && !other.snapshot(0, 1, 0) && other.scan(0, 5000).size() == KEYS + 1000);
     CHECK(one.reserve().pages > 0 && map.room().rows > 0);
+    blink::Map apart;
+    CHECK(refused(BLINK_FOREIGN, [&] { auto foreign = apart.join(); one.tell(foreign); }));
     {
         blink::Map same = map.share();
         blink::Session third = same.join();
@@ -116,62 +123,58 @@ static void shares_a_map() {
     blink::Index closed = map.close();
     CHECK(closed.size() == KEYS + 1000 && closed.find(5) == 7u && index.size() == 0);
     for (std::uint64_t key = 6; key < KEYS; key++) CHECK(closed.find(key) == THREADS * TURNS);
+    CHECK(refused(BLINK_MAP_CLOSED, [&] { map.room(); }));
 }
 
-// Four threads insert ten thousand keys together into a map of no room: no insertion is refused, and none is lost.
-static void shares_a_growing_map() {
-    enum { THREADS = 4, KEYS = 10000 };
+// Eight threads insert ten thousand keys together into a map that nobody told its room: no insertion is refused, and none is lost.
+static void lets_a_map_grow() {
+    enum { THREADS = 8, KEYS = 10000 };
     blink::Index index(16);
     index.insert(1000000, 1);
-    blink::GrowingMap map(index, THREADS);
-    std::vector<std::thread> threads;
-    for (int i = 0; i < THREADS; i++)
-        threads.emplace_back([session = map.join()]() mutable {
-            for (std::uint64_t key = 0; key < KEYS; key++) {
-                auto kind = session.insert(key, key).kind;
-                CHECK(kind == BLINK_INSERTED || kind == BLINK_EXISTS);
-            }
-        });
-    for (auto &thread : threads) thread.join();
-    threads.clear();
-    blink::GrowingSession one = map.join(), other = map.join();
+    blink::Map map(index);
+    in_threads(map, THREADS, [](blink::Session &session) {
+        for (std::uint64_t key = 0; key < KEYS; key++) {
+            auto kind = session.insert(key, key).kind;
+            CHECK(kind == BLINK_INSERTED || kind == BLINK_EXISTS);
+        }
+    });
+    blink::Session one = map.join(), other = map.join();
     CHECK(other.scan(0, KEYS).size() == KEYS && other.find(1000000) == 1u && !other.find(KEYS) && other.scan(7, 7)[0].pointer == 7);
     CHECK(other.scan_back(0, 2000000)[1].key == KEYS - 1 && other.snapshot(1, KEYS, 10)->size() == KEYS - 1);
-    CHECK(one.put(5, 7) == 5u && !one.put(20000, 8) && is(one.replace(20000, 9), BLINK_REPLACED, 8));
-    CHECK(is(one.exchange(5, 6, 8), BLINK_EXISTS, 7) && is(one.exchange(5, 7, 8), BLINK_REPLACED, 7));
+    CHECK(is(one.exchange(5, 6, 8), BLINK_EXISTS, 5) && is(one.exchange(5, 5, 8), BLINK_REPLACED, 5));
     CHECK(is(one.remove_exact(5, 7), BLINK_EXISTS, 8) && is(one.remove_exact(5, 8), BLINK_REMOVED, 8) && is(one.remove(6), BLINK_REMOVED, 6));
     {
-        blink::GrowingSession::Hold held(one);
-        CHECK(one.find(20000) == 9u && is(one.insert(5, 50), BLINK_INSERTED, 0) && refused(BLINK_RENEWING, [&] { map.renew(); }));
+        blink::Session::Hold held(one);
+        CHECK(one.find(7) == 7u && is(one.insert(5, 50), BLINK_INSERTED, 0) && refused(BLINK_RENEWING, [&] { map.renew(); }));
+        one.tell(other);
+        CHECK(refused(BLINK_RENEWING, [&] { map.renew(1); }));
     }
     map.renew();
-    {
-        blink::GrowingMap same = map.share();
-        blink::GrowingSession third = same.join();
-        CHECK(third.find(5) == 50u && refused(BLINK_NO_SESSION, [&] { auto fourth = same.join(), fifth = same.join(); }));
-    }
-    CHECK(refused(BLINK_SESSION_MISSING, [&] { map.close(); }));
-    { blink::GrowingSession gone = std::move(one), gone_too = std::move(other); }
+    CHECK(other.find(5) == 50u && refused(BLINK_SESSION_MISSING, [&] { map.close(); }));
+    { blink::Session gone = std::move(one), gone_too = std::move(other); }
     blink::Index closed = map.close();
-    CHECK(closed.size() == KEYS + 1 && closed.find(20000) == 9u && !closed.find(6) && index.size() == 1);
-    CHECK(refused(BLINK_BAD_SESSIONS, [&] { blink::GrowingMap(index, 257); }));
+    CHECK(closed.size() == KEYS && closed.find(1000000) == 1u && !closed.find(6) && index.size() == 1);
+    CHECK(blink::Map(4).close().fan() == 4 && refused(BLINK_BAD_FAN, [] { blink::Map(3); }));
 }
 
 // A room of its user's choice. The leaf has 4 entries, and there are rows for one split, which the fifth insertion makes.
-static void chooses_the_room_of_a_growing_map(bool fixed) {
+static void chooses_the_room_of_a_map(bool fixed) {
     blink::Index index(4);
-    blink::GrowingMap map(index, blink::Room{200, 44, 1}, fixed);
+    blink::Map map(index, blink::Room{200, 44, 1}, fixed);
     {
-        blink::GrowingSession session = map.join();
-        CHECK(session.reserve().pages == 0);
+        blink::Session session = map.join();
+        CHECK(session.reserve().pages == 0 && map.room().pages == 200 && map.room().rows == 44);
         for (std::uint64_t key = 1; key < 6; key++) CHECK(is(session.insert(key, 10 * key), BLINK_INSERTED, 0));
         CHECK(session.reserve().pages > 0);
         CHECK(fixed == refused(BLINK_FULL, [&] { session.insert(6, 60); }) && session.find(6).has_value() != fixed);
         CHECK(fixed == refused(BLINK_FULL, [&] { map.renew(); }));
         CHECK(session.put(5, 51) == 50u && is(session.remove(1), BLINK_REMOVED, 10) && session.find(5) == 51u);
+        blink::Session::Hold held(session);
+        CHECK(fixed == refused(BLINK_NO_SESSION, [&] { map.join(); }) && fixed == refused(BLINK_RENEWING, [&] { map.room(); }));
     }
     CHECK(map.close().size() == (fixed ? 4u : 5u));
-    CHECK(refused(BLINK_MAP_TOO_LARGE, [&] { blink::GrowingMap(index, blink::Room{1048575, 44, 1}, fixed); }));
+    CHECK(refused(BLINK_MAP_TOO_LARGE, [&] { blink::Map(index, blink::Room{1048575, 44, 1}, fixed); }));
+    CHECK(refused(BLINK_BAD_SESSIONS, [&] { blink::Map(index, blink::Room{200, 44, 257}, fixed); }));
 }
 
 static void shares_a_table() {
@@ -208,9 +211,9 @@ int main() {
     uses_an_index();
     shares_an_index();
     shares_a_map();
-    shares_a_growing_map();
-    chooses_the_room_of_a_growing_map(false);
-    chooses_the_room_of_a_growing_map(true);
+    lets_a_map_grow();
+    chooses_the_room_of_a_map(false);
+    chooses_the_room_of_a_map(true);
     shares_a_table();
     std::puts("all calls are as expected");
 }

@@ -1,4 +1,4 @@
-"""Uses each type of python/blink.py: an index, readers, a map that eight threads change, and a table. It also compares what the module
+"""Uses each type of python/blink.py: an index, readers, maps that threads change, and a table. It also compares what the module
 declares with include/blink.h, which is read from there or from the folder that is named. Run: all_calls.py [FOLDER]"""
 
 import ctypes
@@ -46,7 +46,7 @@ def compares_with_the_header(folder):
         if name == "blink_version":
             continue
         there, wanted = prototypes[name]
-        wanted = [re.sub(r"^blink_(index|reader|table|pass|map|session|growing|growing_session)\b", "handle", it).replace("size_t", "uint64_t") for it in wanted]
+        wanted = [re.sub(r"^blink_(index|reader|table|pass|map|session)\b", "handle", it).replace("size_t", "uint64_t") for it in wanted]
         assert [said(it) for it in parameters] == wanted, name
         assert ("void" if result is None else said(result)) == there.replace("size_t", "uint64_t"), name
     version = re.search(r'^#define BLINK_VERSION "(.*)"$', text, re.M)[1]
@@ -90,7 +90,7 @@ def uses_an_index():
     index.free()
     index.free()
     refuses(ValueError, index.find, 5)
-    refuses(ValueError, blink.Map, index, 10, 10, 1)
+    refuses(ValueError, blink.Map, index)
 
 
 def shares_an_index():
@@ -104,7 +104,7 @@ def shares_an_index():
     in_threads(reads, [reader.join() for _ in range(2)])
     other = reader.join()
     assert refuses(blink.Error, reader.unshare).name == "SHARED" and len(reader) == 1000
-    refuses(TypeError, blink.Map, reader, 10, 10, 1)
+    refuses(TypeError, blink.Map, reader)
     other.free()
     index = reader.unshare()
     refuses(ValueError, reader.find, 5)
@@ -132,7 +132,8 @@ def in_threads(call, values):
 def shares_a_map():
     """Eight threads add to the same ten keys, each a hundred times a key: no addition is lost."""
     index = blink.Index(16)
-    shared = blink.Map(index, pages=5000, rows=20000, sessions=8)
+    shared = blink.Map.with_room(index, pages=5000, rows=20000, sessions=8, fixed=True)
+    assert shared.room() == (5000, 20000)
 
     def adds(session):
         with session:
@@ -151,6 +152,7 @@ def shares_a_map():
     one.tell(other)
     assert other.find(5) == 7 and other.remove_exact(10, 8) == (EXISTS, 9) and other.remove(10) == (REMOVED, 9)
     refuses(TypeError, one.tell, one)
+    assert refuses(blink.Error, one.tell, blink.Map().join()).name == "FOREIGN"
     for key in range(1000, 2000):
         one.insert(key, key)
     assert len(other.snapshot(0, MOST)) == 1010 and other.snapshot(0, 1, tries=0) is None and len(other.scan(1500, 1999)) == 500
@@ -167,15 +169,12 @@ def shares_a_map():
     # as test.c of crates/blink_c/link has it: two insertions fill a half page of four again
     four = blink.Index(4)
     assert blink.room_for(four, 1000, 2) == (1195, 2990, 2) and blink.room_for(four, 2**32 - 1, 256) == (2**32 - 1, 2**32 - 1, 256)
-    left = blink.Map(index, *blink.room_for(index, 100, 1))
-    session = left.join()
-    assert refuses(blink.Error, left.close).name == "SESSION_MISSING" and session.find(5) is None
 
 
-def shares_a_growing_map():
+def lets_a_map_grow():
     """Four threads insert ten thousand keys together into a map of no room: no insertion is refused, and none is lost."""
     index = blink.Index(16, [(MOST, 1)])
-    shared = blink.GrowingMap(index, sessions=4)
+    shared = blink.Map(index)
 
     def inserts(session):
         with session:
@@ -186,49 +185,49 @@ def shares_a_growing_map():
     one, other = shared.join(), shared.join()
     assert other.scan(0, 10_000) == [(key, key) for key in range(10_000)] and other.find(MOST) == 1 and other.find(10_000) is None
     assert other.scan_back(0, MOST)[:2] == [(MOST, 1), (9_999, 9_999)] and len(other.snapshot(1, 9_999)) == 9_999
-    assert other.snapshot(0, 1, tries=0) is None or other.snapshot(0, 1) == [(0, 0), (1, 1)]
-    assert one.put(5, 7) == 5 and one.put(20_000, 8) is None and one.replace(20_000, 9) == (REPLACED, 8)
-    assert one.exchange(5, 6, 8) == (EXISTS, 7) and one.exchange(5, 7, 8) == (REPLACED, 7)
+    assert one.exchange(5, 6, 8) == (EXISTS, 5) and one.exchange(5, 5, 8) == (REPLACED, 5)
     assert one.remove_exact(5, 7) == (EXISTS, 8) and one.remove_exact(5, 8) == (REMOVED, 8) and one.remove(6) == (REMOVED, 6)
     with one.hold():
-        assert one.find(20_000) == 9 and one.insert(5, 50) == (INSERTED, 0)
+        assert one.find(7) == 7 and one.insert(5, 50) == (INSERTED, 0)
         assert refuses(blink.Error, shared.renew).name == "RENEWING"
+        one.tell(other)
+        assert refuses(blink.Error, shared.renew, 1).name == "RENEWING"
     shared.renew()
-    assert one.find(5) == 50 and refuses(blink.Error, shared.close).name == "SESSION_MISSING"
-    more = [shared.join() for _ in range(2)]
-    assert refuses(blink.Error, shared.join).name == "NO_SESSION"
-    for session in more + [one, other]:
-        session.free()
+    assert other.find(5) == 50 and refuses(blink.Error, shared.close).name == "SESSION_MISSING"
+    one.free()
+    other.free()
     closed = shared.close()
     refuses(ValueError, shared.join)
-    assert len(closed) == 10_001 and closed.find(20_000) == 9 and closed.find(6) is None and len(index) == 1
-    assert refuses(blink.Error, blink.GrowingMap, index, 257).name == "BAD_SESSIONS"
-    refuses(TypeError, blink.GrowingMap, 4, 4)
+    assert len(closed) == 10_000 and closed.find(MOST) == 1 and closed.find(6) is None and len(index) == 1
+    refuses(TypeError, blink.Map, 4)
 
 
-def chooses_the_room_of_a_growing_map(fixed):
+def chooses_the_room_of_a_map(fixed):
     """A room of its user's choice. The leaf has 4 entries, and there are rows for one split, which the fifth insertion makes."""
     index = blink.Index(4)
-    shared = blink.GrowingMap.with_room(index, 200, 44, 1, fixed)
+    shared = blink.Map.with_room(index, 200, 44, 1, fixed)
     session = shared.join()
-    assert session.reserve() == (0, 0, 0, 0, 0)
+    assert session.reserve() == (0, 0, 0, 0, 0) and shared.room() == (200, 44)
     for key in range(1, 6):
         assert session.insert(key, 10 * key) == (INSERTED, 0)
     assert session.reserve().pages > 0
     if fixed:
         assert refuses(blink.Error, session.insert, 6, 60).name == "FULL" and session.find(6) is None
-        assert refuses(blink.Error, shared.renew).name == "FULL"
+        assert refuses(blink.Error, shared.renew).name == "FULL" and refuses(blink.Error, shared.join).name == "NO_SESSION"
+        with session.hold():
+            assert refuses(blink.Error, shared.room).name == "RENEWING"
     else:
         assert session.insert(6, 60) == (INSERTED, 0) and session.find(6) == 60
         shared.renew()
     assert session.put(5, 51) == 50 and session.remove(1) == (REMOVED, 10) and session.find(5) == 51
     session.free()
     assert len(shared.close()) == (4 if fixed else 5)
-    grows = blink.GrowingMap.with_room(index, *blink.room_for(index, 100, 1))
+    grows = blink.Map.with_room(index, *blink.room_for(index, 100, 1))
     grows.renew()
     assert len(grows.close()) == 0
-    assert refuses(blink.Error, blink.GrowingMap.with_room, index, 2**20 - 1, 44, 1, fixed).name == "MAP_TOO_LARGE"
-    refuses(TypeError, blink.GrowingMap.with_room, 4, 200, 44, 1)
+    assert refuses(blink.Error, blink.Map.with_room, index, 2**20 - 1, 44, 1, fixed).name == "MAP_TOO_LARGE"
+    assert refuses(blink.Error, blink.Map.with_room, index, 200, 44, 257, fixed).name == "BAD_SESSIONS"
+    refuses(TypeError, blink.Map.with_room, 4, 200, 44, 1)
 
 
 def shares_a_table():
@@ -266,8 +265,8 @@ compares_with_the_header(pathlib.Path(sys.argv[1]) if len(sys.argv) > 1 else top
 uses_an_index()
 shares_an_index()
 shares_a_map()
-shares_a_growing_map()
-chooses_the_room_of_a_growing_map(False)
-chooses_the_room_of_a_growing_map(True)
+lets_a_map_grow()
+chooses_the_room_of_a_map(False)
+chooses_the_room_of_a_map(True)
 shares_a_table()
 print("all calls are as expected")

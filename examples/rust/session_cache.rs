@@ -60,9 +60,7 @@ fn serve(map: &Map, thread: u64, clock: &AtomicU64) -> Result<Served, Error> {
 }
 
 fn main() -> Result<(), Error> {
-    // room for each user's key once is enough, however often users come and go: a leaf has place for all users whose keys belong there,
-    // once these are 32 or fewer, and is split no more
-    let map = Map::with_capacity(USERS as u32, THREADS as u32)?;
+    let map = Map::default();
     let clock = AtomicU64::new(0);
     let all = thread::scope(|scope| {
         let (map, clock) = (&map, &clock);

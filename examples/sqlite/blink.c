@@ -6,15 +6,15 @@
 // table stays empty if the drop is rolled back. `make -C examples/sqlite` builds blink.so, and `.load ./blink` loads it.
 //
 // `USING blink(NAME)` makes a table over a map instead, which all connections of the process share by this name, each by a session, as long as
-// one of them has it. No connection waits for another. There is no isolation: each sees the others' changes at once, of two that change a row
-// at once the later one wins, and a rollback undoes what nobody has changed since.
+// one of them has it. A connection waits for another only while the map grows. There is no isolation: each sees the others' changes at once, of
+// two that change a row at once the later one wins, and a rollback undoes what nobody has changed since.
 #include "blink.h"
 #include <limits.h>
 #include <sqlite3ext.h>
 #include <string.h>
 SQLITE_EXTENSION_INIT1
 
-enum { FAN = 32, PART = 256, FIRST_PART = 16, PAGES = 50000, ROWS = 100000, SESSIONS = 64 };
+enum { FAN = 32, PART = 256, FIRST_PART = 16 };
 
 // What a key mapped to before and after a change, where it was there.
 struct undo {
@@ -75,7 +75,7 @@ static sqlite3_int64 value_of(uint64_t key) { return (sqlite3_int64)(key ^ (uint
 
 static int status_of(int code) {
     if (code == BLINK_DONE) return SQLITE_OK;
-    return code == BLINK_INDEX_TOO_LARGE || code == BLINK_FULL || code == BLINK_NO_SESSION ? SQLITE_FULL : SQLITE_NOMEM;
+    return code == BLINK_INDEX_TOO_LARGE || code == BLINK_MAP_TOO_LARGE || code == BLINK_NO_SESSION ? SQLITE_FULL : SQLITE_NOMEM;
 }
 
 // ---- An index or a session. ----
@@ -84,7 +84,7 @@ static bool finds(struct rows *rows, uint64_t key, uint64_t *pointer) {
     blink_answer answer;
     if (!rows->shared) return blink_index_find(&rows->index, key, pointer);
     // nothing is refused, since no operation is under way between two calls
-    if (blink_session_find(&rows->session, key, &answer) != BLINK_DONE || answer.kind != BLINK_FOUND) return false;
+    if (blink_session_find_wait(&rows->session, key, &answer) != BLINK_DONE || answer.kind != BLINK_FOUND) return false;
     *pointer = answer.pointer;
     return true;
 }
@@ -93,8 +93,8 @@ static bool finds(struct rows *rows, uint64_t key, uint64_t *pointer) {
 static blink_scanned reads(struct rows *rows, uint64_t lo, uint64_t hi, bool descending, blink_entry *part, size_t want) {
     blink_scanned scanned = {0, 0, 0};
     // none is refused, since no operation is under way between two calls
-    if (rows->shared && descending) (void)blink_session_scan_back(&rows->session, lo, hi, part, want, &scanned);
-    else if (rows->shared) (void)blink_session_scan(&rows->session, lo, hi, part, want, &scanned);
+    if (rows->shared && descending) (void)blink_session_scan_back_wait(&rows->session, lo, hi, part, want, &scanned);
+    else if (rows->shared) (void)blink_session_scan_wait(&rows->session, lo, hi, part, want, &scanned);
     else if (descending) (void)blink_index_scan_back(&rows->index, lo, hi, part, want, &scanned);
     else (void)blink_index_scan(&rows->index, lo, hi, part, want, &scanned);
     return scanned;
@@ -141,8 +141,7 @@ static struct shared *new_shared(const char *name) {
     blink_index index = {NULL};
     if (!shared) return NULL;
     *shared = (struct shared){.name = sqlite3_mprintf("%s", name)};
-    bool made = shared->name && blink_index_new(FAN, &index) == BLINK_DONE &&
-                blink_map_open(&index, PAGES, ROWS, SESSIONS, &shared->map) == BLINK_DONE;
+    bool made = shared->name && blink_index_new(FAN, &index) == BLINK_DONE && blink_map_open(&index, &shared->map) == BLINK_DONE;
     if (index.at) blink_index_free(index);
     if (!made) return sqlite3_free(shared->name), sqlite3_free(shared), NULL;
     shared->next = all_shared;
@@ -453,7 +452,8 @@ static int inserts(struct rows *rows, uint64_t key, uint64_t pointer, bool may_r
 }
 
 // Undoes the changes of the log behind so many, the last one first. Of an index nothing is refused: of a deleted key the leaf has room, since
-// its entries aren't more then than when the key was deleted, so nothing is split, and an insertion takes no memory. A map may have no room.
+// its entries aren't more then than when the key was deleted, so nothing is split, and an insertion takes no memory. A map may be refused
+// memory to grow.
 static int undo(struct rows *rows, size_t left) {
     int status = SQLITE_OK;
     while (rows->logged > left) {

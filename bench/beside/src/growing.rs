@@ -1,10 +1,9 @@
-//! The map that grows beside the map with a fixed room, by turns: finds, a queue that lives long, growing from nothing, and what a renewal
-//! takes and holds up.
+//! The map beside one with a fixed room, by turns: finds, a queue that lives long, growing from nothing, and what a renewal takes and holds up.
 
 use crate::soak::{memory, Dice};
 use crate::turns::{median_of, timed};
 use crate::workload::{Keys, Random};
-use blink::{Answer, GrowingMap, GrowingSession, Index, Map, Room, Session};
+use blink::{Answer, Index, Map, Room, Session};
 use std::sync::atomic::{AtomicBool, AtomicU64, Ordering};
 use std::thread;
 use std::time::{Duration, Instant};
@@ -26,19 +25,7 @@ trait Queue: Send {
     fn least(&mut self) -> u64;
 }
 
-impl Queue for Session<'_> {
-    fn push(&mut self, key: u64) {
-        assert_eq!(self.insert(key, !key), Ok(Answer::Inserted));
-    }
-    fn take(&mut self, key: u64) {
-        assert_eq!(self.remove(key), Ok(Answer::Removed(!key)));
-    }
-    fn least(&mut self) -> u64 {
-        self.first().expect("an entry").0
-    }
-}
-
-impl Queue for GrowingSession {
+impl Queue for Session {
     fn push(&mut self, key: u64) {
         assert_eq!(self.insert(key, !key), Ok(Answer::Inserted));
     }
@@ -84,19 +71,11 @@ fn index_of(entries: impl Iterator<Item = (u64, u64)>) -> Index {
     Index::from_entries(32, sorted).expect("an index")
 }
 
-fn growing(index: &Index, sessions: usize) -> GrowingMap {
-    GrowingMap::open(index, sessions as u32).expect("a map")
-}
-
 fn fixed(index: &Index, pages: u32, sessions: usize) -> Map {
-    Map::open(index, Room { pages, rows: 2 * pages + 4_096 * sessions as u32, sessions: sessions as u32 }).expect("a map")
+    Map::open_fixed(index, Room { pages, rows: 2 * pages + 4_096 * sessions as u32, sessions: sessions as u32 }).expect("a map")
 }
 
-fn growing_sessions(map: &GrowingMap, count: usize) -> Vec<GrowingSession> {
-    (0..count).map(|_| map.session().expect("a session")).collect()
-}
-
-fn fixed_sessions(map: &Map, count: usize) -> Vec<Session<'_>> {
+fn sessions(map: &Map, count: usize) -> Vec<Session> {
     (0..count).map(|_| map.session().expect("a session")).collect()
 }
 
@@ -111,11 +90,11 @@ fn by_turns(rounds: usize, sides: &mut [&mut dyn FnMut() -> f64]) -> Vec<f64> {
     figures.iter_mut().map(|figures| median_of(figures)).collect()
 }
 
-// Finds of any key: by a session of the map, by one of the growing map, and by one that is held.
+// Finds of any key: by a session of a map with a fixed room, by one of a map that grows, and by one that is held.
 fn finds() {
     let keys = Keys::random(40_000, 0).present;
     let index = index_of(keys.iter().map(|&key| (key, !key)));
-    let (map, grows) = (fixed(&index, 100, THREADS), growing(&index, THREADS));
+    let (map, grows) = (fixed(&index, 100, THREADS), Map::open(&index).expect("a map"));
     for threads in [1, THREADS] {
         let draw = |thread: u64| {
             let mut random = Random(thread);
@@ -123,13 +102,13 @@ fn finds() {
             (0..FINDS / threads).map(move |_| keys[random.below(keys.len())])
         };
         let mut by_map = || {
-            timed(fixed_sessions(&map, threads), FINDS, |mut session, thread| draw(thread).for_each(|key| assert!(session.get(key).is_some())))
+            timed(sessions(&map, threads), FINDS, |mut session, thread| draw(thread).for_each(|key| assert!(session.get(key).is_some())))
         };
         let mut by_growing = || {
-            timed(growing_sessions(&grows, threads), FINDS, |mut session, thread| draw(thread).for_each(|key| assert!(session.get(key).is_some())))
+            timed(sessions(&grows, threads), FINDS, |mut session, thread| draw(thread).for_each(|key| assert!(session.get(key).is_some())))
         };
         let mut held = || {
-            timed(growing_sessions(&grows, threads), FINDS, |mut session, thread| {
+            timed(sessions(&grows, threads), FINDS, |mut session, thread| {
                 let mut session = session.hold();
                 draw(thread).for_each(|key| assert!(session.get(key).is_some()));
             })
@@ -146,11 +125,11 @@ fn queues() {
         let (mut fixed_figures, mut growing_figures) = ([Vec::new(), Vec::new()], [Vec::new(), Vec::new()]);
         for _ in 0..3 {
             let map = fixed(&index, 50_000, threads);
-            let (change, look) = queue(fixed_sessions(&map, threads));
+            let (change, look) = queue(sessions(&map, threads));
             fixed_figures[0].push(change);
             fixed_figures[1].push(look);
-            let map = growing(&index, threads);
-            let (change, look) = queue(growing_sessions(&map, threads));
+            let map = Map::open(&index).expect("a map");
+            let (change, look) = queue(sessions(&map, threads));
             growing_figures[0].push(change);
             growing_figures[1].push(look);
         }
@@ -168,11 +147,11 @@ fn growth() {
         let insert = |thread: u64, session: &mut dyn FnMut(u64)| (0..GROWN / threads as u64).for_each(|turn| session(key(turn * threads as u64 + thread)));
         let mut by_map = || {
             let map = fixed(&empty, 80_000, threads);
-            timed(fixed_sessions(&map, threads), GROWN as usize, |mut session, thread| insert(thread, &mut |key| session.push(key)))
+            timed(sessions(&map, threads), GROWN as usize, |mut session, thread| insert(thread, &mut |key| session.push(key)))
         };
         let mut by_growing = || {
-            let map = growing(&empty, threads);
-            timed(growing_sessions(&map, threads), GROWN as usize, |mut session, thread| insert(thread, &mut |key| session.push(key)))
+            let map = Map::open(&empty).expect("a map");
+            timed(sessions(&map, threads), GROWN as usize, |mut session, thread| insert(thread, &mut |key| session.push(key)))
         };
         let figures = by_turns(3, &mut [&mut by_map, &mut by_growing]);
         println!("An insertion of a million into an empty map, {threads} threads|{:.0}|{:.0}|", figures[0], figures[1]);
@@ -182,11 +161,11 @@ fn growth() {
 // What a renewal takes, and how long the slowest of many finds beside takes.
 fn renewals(entries: u64) {
     let keys: Vec<u64> = (0..entries).map(|number| Dice(number).next()).collect();
-    let map = growing(&index_of(keys.iter().map(|&key| (key, !key))), THREADS);
+    let map = Map::open(&index_of(keys.iter().map(|&key| (key, !key)))).expect("a map");
     let stop = AtomicBool::new(false);
     let (pauses, finds) = thread::scope(|scope| {
         let (keys, stop) = (&keys, &stop);
-        let finders: Vec<_> = growing_sessions(&map, 2)
+        let finders: Vec<_> = sessions(&map, 2)
             .into_iter()
             .map(|mut session| {
                 scope.spawn(move || {
@@ -218,7 +197,7 @@ fn renewals(entries: u64) {
 
 /// Measures and prints all of it.
 pub fn all() {
-    println!("Work, ns|map|growing map|held\n|---|---|---|---|");
+    println!("Work, ns|fixed room|map|held\n|---|---|---|---|");
     finds();
     queues();
     growth();
@@ -233,10 +212,10 @@ const FIRST: u64 = 1_000_000;
 /// Lets a queue live through so many changes by four threads, each with keys of its own, and tells time and memory.
 pub fn soak(changes: u64) {
     let threads = THREADS as u64;
-    let map = growing(&index_of((0..QUEUE).map(|key| (key, !key))), THREADS);
+    let map = Map::open(&index_of((0..QUEUE).map(|key| (key, !key)))).expect("a map");
     let (made, start) = (AtomicU64::new(0), Instant::now());
     let early = thread::scope(|scope| {
-        for (thread, mut session) in (0..).zip(growing_sessions(&map, THREADS)) {
+        for (thread, mut session) in (0..).zip(sessions(&map, THREADS)) {
             let made = &made;
             scope.spawn(move || {
                 let key = |turn: u64| turn * threads + thread;

@@ -11,8 +11,8 @@
 //! beside planted         the same with one wrong sum, which it has to find
 //! beside turns           measures finds, changes and scans by turns: of sessions beside those of passes, and scans beside a BTreeMap's
 //! beside changes         times each kind of call once, for bench/changes.sh, which compares two libraries
-//! beside growing         measures the growing map beside the map: finds, a queue, growing from nothing, and renewals
-//! beside queue CHANGES   lets a queue in the growing map live through so many changes, and tells time and memory
+//! beside growing         measures the map beside one with a fixed room: finds, a queue, growing from nothing, and renewals
+//! beside queue CHANGES   lets a queue in the map live through so many changes, and tells time and memory
 //! beside life            measures the life of a map: joining, opening, and what an insertion uses up
 //! beside tails           measures how long single changes take: the median, and the slowest of a thousand and of ten thousand
 //! beside soak FAN CHANGES

@@ -197,7 +197,7 @@ pub struct ByMap<const FAN: u8> {
     closed: u64,
 }
 
-impl Handle for Session<'_> {
+impl Handle for Session {
     fn find(&mut self, key: u64) -> Option<u64> {
         self.get(key)
     }
@@ -229,7 +229,7 @@ impl<const FAN: u8> Side for ByMap<FAN> {
             _ => grown(FAN, &case.entries),
         };
         let start = Instant::now();
-        let map = Some(Map::open(&index, room_for(case)).expect("a map"));
+        let map = Some(Map::open_with_room(&index, room_for(case)).expect("a map"));
         let opened = start.elapsed().as_nanos() as u64;
         ByMap { index, entries: case.entries.clone(), map, opened, closed: 0 }
     }
@@ -261,7 +261,7 @@ impl<const FAN: u8> Side for ByMap<FAN> {
 /// Measures what the tables of workloads don't have, and prints it: joining and leaving, how many insertions of random keys a map takes
 /// by its page numbers, and what opening costs for each insertion that a map has room for.
 pub fn life() {
-    let map = Map::open(&Index::new(32).expect("an index"), Room { pages: 0, rows: 0, sessions: 2 }).expect("a map");
+    let map = Map::open_with_room(&Index::new(32).expect("an index"), Room { pages: 0, rows: 0, sessions: 2 }).expect("a map");
     const JOINS: u32 = 1_000_000;
     let start = Instant::now();
     (0..JOINS).for_each(|_| drop(map.session().expect("a place")));
@@ -271,12 +271,12 @@ pub fn life() {
     let index = grown(32, &entries);
     let room = Room { pages: 100_000, rows: INSERTIONS + INSERTIONS / 4, sessions: 1 };
     let start = Instant::now();
-    let map = Map::open(&index, room).expect("a map");
+    let map = Map::open_with_room(&index, room).expect("a map");
     println!("opening: {} ns for each of {INSERTIONS} insertions", start.elapsed().as_nanos() as u32 / INSERTIONS);
     let mut session = map.session().expect("a session");
-    let before = map.room();
+    let before = map.room().expect("a session that nobody holds");
     (0..u64::from(INSERTIONS)).for_each(|number| _ = session.insert(scattered(40_000 + number), number).expect("room"));
-    let left = map.room();
+    let left = map.room().expect("a session that nobody holds");
     let (pages, rows) = (before.pages - left.pages, before.rows - left.rows);
     println!("each insertion: {:.4} page numbers and {:.3} rows", pages as f64 / f64::from(INSERTIONS), rows as f64 / f64::from(INSERTIONS));
     println!("1,048,575 page numbers are enough for {} million", u64::from(INSERTIONS) * 1_048_575 / pages / 1_000_000);
@@ -292,7 +292,7 @@ fn bytes_of_a_map() {
     let index = grown(32, &entries);
     let before = memory();
     let bytes = || (memory() - before) as f64 * 1024.0 / ENTRIES as f64;
-    let map = Map::open(&index, Room { pages: 22, rows: 1_800, sessions: 1 }).expect("a map");
+    let map = Map::open_with_room(&index, Room { pages: 22, rows: 1_800, sessions: 1 }).expect("a map");
     let opened = bytes();
     let mut session = map.session().expect("a session");
     entries.iter().chain(&entries).for_each(|&(key, pointer)| _ = session.replace(key, pointer + 1).expect("room"));

@@ -90,7 +90,7 @@ pub fn soak(fan: u8, changes: u64) -> Result<(), Error> {
         .map(|(thread, number)| (key(thread, number), pointer(thread, number)))
         .collect();
     entries.sort_by_key(|(key, _)| *key);
-    let map = Map::open(&Index::from_entries(fan, entries.iter().copied())?, Room { pages: 200_000, rows: 14_000 * THREADS as u32, sessions: THREADS as u32 })?;
+    let map = Map::open_with_room(&Index::from_entries(fan, entries.iter().copied())?, Room { pages: 200_000, rows: 14_000 * THREADS as u32, sessions: THREADS as u32 })?;
     let made = AtomicU64::new(0);
     let start = Instant::now();
     let (early, known) = thread::scope(|scope| {
@@ -105,7 +105,7 @@ pub fn soak(fan: u8, changes: u64) -> Result<(), Error> {
         let known: Result<Vec<_>, Error> = workers.into_iter().map(|worker| worker.join().expect("no thread panics")).collect();
         (early, known)
     });
-    let (took, late, left) = (start.elapsed(), memory(), map.room());
+    let (took, late, left) = (start.elapsed(), memory(), map.room()?);
     let index = map.close()?;
     let known = known?;
     let present = known.iter().flatten().flatten().count();

@@ -17,7 +17,7 @@ trait Puts: Send {
     fn put(&mut self, key: u64, pointer: u64);
 }
 
-impl Puts for Session<'_> {
+impl Puts for Session {
     fn put(&mut self, key: u64, pointer: u64) {
         Session::put(self, key, pointer).expect("room");
     }
@@ -75,7 +75,7 @@ pub fn tails() {
     for threads in THREADS {
         let mut index = Index::new(32).expect("an index");
         keys.iter().for_each(|&key| _ = index.insert(key, key).expect("an entry"));
-        let map = Map::open(&index, Room { pages: 10_000, rows: 40_000, sessions: threads as u32 }).expect("a map");
+        let map = Map::open_with_room(&index, Room { pages: 10_000, rows: 40_000, sessions: threads as u32 }).expect("a map");
         let sessions = (0..threads).map(|_| map.session().expect("a session")).collect();
         tell("map 32", threads, &times::<Session>(sessions, &keys));
         let tree: Tree = keys.iter().map(|&key| (key, key)).collect();

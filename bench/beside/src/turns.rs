@@ -1,7 +1,7 @@
 //! Calls side by side, by turns, so that what disturbs one disturbs the others: what a session's marks cost, and what scans take.
 
 use crate::workload::{Keys, Random};
-use blink::{GrowingMap, GrowingSession, Index, Map, Pass, Room, Session, Table};
+use blink::{Index, Map, Pass, Room, Session, Table};
 use std::collections::BTreeMap;
 use std::sync::atomic::{AtomicBool, Ordering};
 use std::sync::{Barrier, RwLock};
@@ -76,13 +76,13 @@ fn by_tree(tree: &BTreeMap<u64, u64>, from: u64) -> u64 {
     sum(tree.range(from..).map(|(&key, &pointer)| (key, pointer)))
 }
 
-fn sessions<'a>(map: &'a Map, count: usize) -> Vec<Session<'a>> {
+fn sessions(map: &Map, count: usize) -> Vec<Session> {
     (0..count).map(|_| map.session().expect("a session")).collect()
 }
 
 // What a session's call costs beside a pass's, which announces nothing: finds, and replacements.
 fn marks(index: &Index, keys: &[u64]) {
-    let map = Map::open(index, Room { pages: 100, rows: 4_096 * THREADS as u32, sessions: THREADS as u32 }).expect("a map");
+    let map = Map::open_with_room(index, Room { pages: 100, rows: 4_096 * THREADS as u32, sessions: THREADS as u32 }).expect("a map");
     let mut table = Table::open(index, 0, 0).expect("a table");
     for threads in [1, THREADS] {
         let draw = |thread: u64| {
@@ -115,7 +115,7 @@ fn scanning(index: &Index, keys: &[u64]) {
     let mut sorted = keys.to_vec();
     sorted.sort_unstable();
     let tree: BTreeMap<u64, u64> = keys.iter().map(|&key| (key, !key)).collect();
-    let map = Map::open(index, Room { pages: 100, rows: 2 * 4_096 * THREADS as u32, sessions: 2 * THREADS as u32 }).expect("a map");
+    let map = Map::open_with_room(index, Room { pages: 100, rows: 2 * 4_096 * THREADS as u32, sessions: 2 * THREADS as u32 }).expect("a map");
     let mut table = Table::open(index, 0, 0).expect("a table");
     let pass = table.deal(&[], 0, 0).expect("a pass");
     let turned: Vec<u64> = sorted.iter().rev().copied().collect();
@@ -212,23 +212,23 @@ fn mixed(session: &mut Session, keys: &[u64], thread: u64, count: usize) {
     }
 }
 
-// The same of a growing map: finds by sessions that are held for all of them, and by others; and replacements.
-fn growing_changes(index: &Index, keys: &[u64], threads: usize) {
-    let map = GrowingMap::open(index, threads as u32).expect("a map");
+// The same of a map that was told no room: finds by sessions that are held for all of them, and by others; and replacements.
+fn changes_without_room(index: &Index, keys: &[u64], threads: usize) {
+    let map = Map::open(index).expect("a map");
     let sessions = || (0..threads).map(|_| map.session().expect("a session")).collect::<Vec<_>>();
-    let looks = |session: &mut GrowingSession, thread| {
+    let looks = |session: &mut Session, thread| {
         let mut random = Random(thread);
         (0..CALLS / threads).for_each(|_| assert!(session.get(keys[random.below(keys.len())]).is_some()));
     };
     let find = timed(sessions(), CALLS, |mut session, thread| looks(&mut session, thread));
-    println!("a find in a growing map, {threads} threads\t{find:.1}");
+    println!("a find in a map that was told no room, {threads} threads\t{find:.1}");
     let held = timed(sessions(), CALLS, |mut session, thread| looks(&mut session.hold(), thread));
     println!("the same by held sessions, {threads} threads\t{held:.1}");
     let own = |thread: u64| keys.iter().skip(thread as usize).step_by(threads).copied();
     let replacement = timed(sessions(), 5 * keys.len(), |mut session, thread| {
         (0..5).for_each(|turn| own(thread).for_each(|key| _ = session.replace(key, key ^ turn).expect("memory")));
     });
-    println!("a replacement in a growing map, {threads} threads\t{replacement:.1}");
+    println!("a replacement in a map that was told no room, {threads} threads\t{replacement:.1}");
 }
 
 /// Times, once each, what a map's sessions do. Two libraries are compared by two programs, which `bench/changes.sh` runs by turns.
@@ -240,7 +240,7 @@ pub fn changes() {
         let sessions_of = |map| sessions(map, threads);
         let room = |pages| Room { pages, rows: 2 * pages + 4_096 * threads as u32, sessions: threads as u32 };
         let own = |thread: u64| keys.iter().skip(thread as usize).step_by(threads).copied();
-        let map = Map::open(&index, room(20_000)).expect("a map");
+        let map = Map::open_with_room(&index, room(20_000)).expect("a map");
         let find = timed(sessions_of(&map), CALLS, |mut session, thread| {
             let mut random = Random(thread);
             (0..CALLS / threads).for_each(|_| assert!(session.get(keys[random.below(keys.len())]).is_some()));
@@ -264,16 +264,16 @@ pub fn changes() {
             scans(&sorted, thread, SCANS / threads, |to| sum(session.range(..=to).rev()));
         });
         println!("the same backwards, {threads} threads\t{back:.2}");
-        let empty = Map::open(&Index::new(32).expect("an index"), room(20_000)).expect("a map");
+        let empty = Map::open_with_room(&Index::new(32).expect("an index"), room(20_000)).expect("a map");
         let insertion = timed(sessions_of(&empty), keys.len(), |mut session, thread| {
             own(thread).for_each(|key| _ = session.insert(key, !key).expect("room"));
         });
         println!("an insertion into an empty map, {threads} threads\t{insertion:.1}");
-        growing_changes(&index, &keys, threads);
+        changes_without_room(&index, &keys, threads);
     }
     let mut leaf = Index::new(32).expect("an index");
     keys[..16].iter().for_each(|&key| _ = leaf.insert(key, !key).expect("memory"));
-    let map = Map::open(&leaf, Room { pages: 100, rows: 4_096 * THREADS as u32, sessions: THREADS as u32 }).expect("a map");
+    let map = Map::open_with_room(&leaf, Room { pages: 100, rows: 4_096 * THREADS as u32, sessions: THREADS as u32 }).expect("a map");
     let hot = timed(sessions(&map, THREADS), CALLS, |mut session, thread| {
         let mut random = Random(thread);
         (0..CALLS / THREADS / 2).for_each(|turn| {

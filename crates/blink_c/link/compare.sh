@@ -37,8 +37,6 @@ sed 's/|/ | /g' "$work/exports" | awk -F ' [|] ' '
         c["IndexHandle"] = c["IndexSlot"] = "blink_index"; c["TableHandle"] = c["TableSlot"] = "blink_table"
         c["PassHandle"] = c["PassSlot"] = "blink_pass"; c["MapHandle"] = c["MapSlot"] = "blink_map"
         c["Place"] = "uint64_t"
-        c["GrowingHandle"] = c["GrowingSlot"] = "blink_growing"
-        c["GrowingSessionHandle"] = c["GrowingSessionSlot"] = "blink_growing_session"
         c["SessionHandle"] = c["SessionSlot"] = "blink_session"; c["ReaderHandle"] = c["ReaderSlot"] = "blink_reader"
     }
     {
@@ -61,7 +59,7 @@ sed 's/|/ | /g' "$work/exports" | awk -F ' [|] ' '
 
 # The names in the header, but those of its inline functions.
 sed -n 's/^static inline [^(]*[ *]\(blink_[a-z_]*\)(.*/\1/p' "$header/blink.h" | sort -u >"$work/inline"
-grep -oE '\bblink_(index|reader|table|pass|map|session|growing)_[a-z_]+\(' "$header/blink.h" | tr -d '(' | sort -u | comm -23 - "$work/inline" >"$work/declared"
+grep -oE '\bblink_(index|reader|table|pass|map|session)_[a-z_]+\(' "$header/blink.h" | tr -d '(' | sort -u | comm -23 - "$work/inline" >"$work/declared"
 cut -d"|" -f1 "$work/exports" | sort >"$work/names"
 diff "$work/names" "$work/declared" | sed -n 's/^< \(.*\)/include\/blink.h: lacks \1/p; s/^> \(.*\)/include\/blink.h: no export \1/p' >>"$work/found"
 
@@ -115,16 +113,16 @@ FOREIGN ../blink_owners/specs/TableCodes.antt Foreign
 PENDING ../blink_owners/specs/TableCodes.antt UnderWay
 IDLE ../blink_owners/specs/TableCodes.antt Idle
 RETURNED ../blink_owners/specs/TableCodes.antt Returned
-NO_MEMORY ../blink_map/specs/Codes.antt OutOfMemory
-MAP_TOO_LARGE ../blink_map/specs/Codes.antt TooLarge
-BAD_SESSIONS ../blink_map/specs/Codes.antt Sessions
-NO_SESSION ../blink_map/specs/Codes.antt NoPlace
+NO_MEMORY ../blink_owners/specs/MapCodes.antt OutOfMemory
+MAP_TOO_LARGE ../blink_owners/specs/MapCodes.antt TooLarge
+BAD_SESSIONS ../blink_owners/specs/MapCodes.antt Sessions
+NO_SESSION ../blink_owners/specs/MapCodes.antt NoSession
+FOREIGN ../blink_owners/specs/MapCodes.antt Foreign
 FULL ../blink_owners/specs/MapCodes.antt Full
 SESSION_MISSING ../blink_owners/specs/MapCodes.antt Missing
 MAP_CLOSED ../blink_owners/specs/MapCodes.antt Closed
 ROWS_BUSY ../blink_owners/specs/MapCodes.antt RowsBusy
-RENEWING ../blink_owners/specs/GrowCodes.antt Busy
-FULL ../blink_owners/specs/GrowCodes.antt Full
+RENEWING ../blink_owners/specs/MapCodes.antt Busy
 WORDS
     # The structs of numbers, field by field.
     awk '/^pub struct (Raw|Entry)/ { name = $3; on = 1; print "struct " name " {"; next }

@@ -480,7 +480,7 @@ enum { NONE = 100 }; // a pointer for the calls that take none
 // An operation by a session, to its end.
 static blink_answer changes(blink_session *session, uint64_t kind, uint64_t key, uint64_t pointer) {
     blink_answer answer = {9, 9};
-    CHECK((kind == BLINK_FIND     ? blink_session_find(session, key, &answer)
+    CHECK((kind == BLINK_FIND     ? blink_session_find_wait(session, key, &answer)
            : kind == BLINK_INSERT ? blink_session_insert_wait(session, key, pointer, &answer)
            : kind == BLINK_DELETE ? blink_session_delete_wait(session, key, &answer)
                                   : blink_session_replace_wait(session, key, pointer, &answer)) == BLINK_DONE);
@@ -509,24 +509,45 @@ static bool is(blink_answer answer, uint64_t kind, uint64_t pointer) { return an
 
 static bool has(blink_session *session, blink_reserve expected) {
     blink_reserve it = {9, 9, 9, 9, 9};
-    return blink_session_reserve(session, &it) == BLINK_DONE && memcmp(&it, &expected, sizeof it) == 0;
+    return blink_session_reserve(session, 1, &it) == BLINK_DONE && memcmp(&it, &expected, sizeof it) == 0;
+}
+
+static bool has_left(blink_map *map, uint64_t rows, uint64_t pages) {
+    uint64_t rows_there = 9, pages_there = 9;
+    return blink_map_room(map, 1, &rows_there, &pages_there) == BLINK_DONE && rows_there == rows && pages_there == pages;
+}
+
+static blink_map map_with_room(const blink_index *index, uint32_t pages, uint32_t rows, uint32_t sessions, bool fixed) {
+    blink_map map = {NULL};
+    CHECK(blink_map_open_with_room(index, pages, rows, sessions, fixed, &map) == BLINK_DONE);
+    return map;
+}
+
+static blink_session session_of(blink_map *map) {
+    blink_session session = {NULL};
+    CHECK(blink_map_join(map, &session) == BLINK_DONE);
+    return session;
+}
+
+// Closes the map, which is given up, and the index of so many entries stays.
+static blink_index closed_with(blink_map map, size_t entries) {
+    blink_index closed = {NULL};
+    CHECK(blink_map_close(&map, &closed) == BLINK_DONE && blink_index_len(&closed) == entries);
+    blink_map_free(map);
+    return closed;
 }
 
 // Keys 1 to 5 map to 10 to 50. One session changes keys 2, 3, 6 and 7, and tells another; then both leave, and the map is closed.
 static void changes_a_map(void) {
     blink_index index = index_of(4, five, 6), closed = {NULL};
-    blink_map map = {NULL};
-    blink_session one = {NULL}, other = {NULL};
-    uint64_t rows = 0, pages = 0, pointer;
-    CHECK(blink_map_open(&index, 300, 600, 2, &map) == BLINK_DONE);
-    blink_map_room(&map, &rows, &pages);
-    CHECK(rows == 600 && pages == 300);
-    CHECK(blink_map_join(&map, &one) == BLINK_DONE && blink_map_join(&map, &other) == BLINK_DONE);
+    blink_map map = map_with_room(&index, 300, 600, 2, true);
+    CHECK(has_left(&map, 600, 300));
+    blink_session one = session_of(&map), other = session_of(&map);
     CHECK(is(changes(&one, BLINK_FIND, 3, NONE), BLINK_FOUND, 30) && is(changes(&one, BLINK_FIND, 6, NONE), BLINK_ABSENT, 0));
     CHECK(has(&one, (blink_reserve){0, 0, 0, 0, 0}));
     CHECK(is(changes(&one, BLINK_INSERT, 6, 60), BLINK_INSERTED, 0) && is(changes(&one, BLINK_INSERT, 6, 61), BLINK_EXISTS, 60));
     // of two sessions it has drawn 64 numbers, and a quarter of the pool's rows, and its insertion was appended to the leaf's row
-    CHECK(has(&one, (blink_reserve){64, 150, 0, 0, 0}));
+    CHECK(has(&one, (blink_reserve){64, 150, 0, 0, 0}) && has_left(&map, 450, 236));
     CHECK(is(changes(&one, BLINK_REPLACE, 6, 62), BLINK_REPLACED, 60) && is(changes(&one, BLINK_REPLACE, 7, 70), BLINK_ABSENT, 0));
     CHECK(is(changes(&one, BLINK_DELETE, 2, NONE), BLINK_REMOVED, 20) && is(changes(&one, BLINK_DELETE, 2, NONE), BLINK_ABSENT, 0));
     CHECK(is(puts_so(&one, 7, 71), BLINK_INSERTED, 0) && is(puts_so(&one, 7, 72), BLINK_REPLACED, 71));
@@ -535,11 +556,9 @@ static void changes_a_map(void) {
     CHECK(is(exchanges(&one, 7, 73, 72), BLINK_REPLACED, 73) && is(exchanges(&one, 9, 0, 90), BLINK_ABSENT, 0));
     CHECK(is(removes(&one, 4, 41), BLINK_EXISTS, 40) && is(removes(&one, 9, 90), BLINK_ABSENT, 0));
     CHECK(is(puts_so(&one, 8, 80), BLINK_INSERTED, 0) && is(removes(&one, 8, 80), BLINK_REMOVED, 80));
-    CHECK(blink_session_tell(&one, &other) == BLINK_DONE);
+    CHECK(blink_session_tell(&one, &other, 1) == BLINK_DONE);
     CHECK(is(changes(&other, BLINK_FIND, 7, NONE), BLINK_FOUND, 72) && is(changes(&other, BLINK_FIND, 2, NONE), BLINK_ABSENT, 0));
     CHECK(is(changes(&other, BLINK_DELETE, 6, NONE), BLINK_REMOVED, 62));
-    blink_map_room(&map, &rows, &pages);
-    CHECK(rows < 600 && pages < 300);
     // a snapshot that is refused memory, and a scan into no place, leave the session at rest: the map closes
     blink_entry range[2];
     blink_taken taken = {9, 9};
@@ -547,17 +566,18 @@ static void changes_a_map(void) {
     refused_at = 0;
     CHECK(blink_session_snapshot(&one, 0, 9, 1, range, 2, &taken) == BLINK_NO_MEMORY && taken.taken == 9);
     refused_at = -1;
-    CHECK(blink_session_scan(&other, 0, 9, range, 0, &scanned) == BLINK_DONE && scanned.filled == 0);
+    CHECK(blink_session_scan(&other, 0, 9, 1, range, 0, &scanned) == BLINK_DONE && scanned.filled == 0);
     blink_session_free(one), blink_session_free(other);
     CHECK(blink_map_close(&map, &closed) == BLINK_DONE);
-    // a closed map has no session, no second handle, no room and no second index
+    // a closed map has no session, no second handle, no room, no renewal and no second index
     blink_index again = {NULL};
     blink_map second = {NULL};
+    uint64_t rows = 9, pages = 9, pointer;
     one.at = NULL;
     CHECK(blink_map_close(&map, &again) == BLINK_MAP_CLOSED && again.at == NULL);
     CHECK(blink_map_join(&map, &one) == BLINK_NO_SESSION && blink_map_share(&map, &second) == BLINK_MAP_CLOSED && second.at == NULL);
-    blink_map_room(&map, &rows, &pages);
-    CHECK(rows == 0 && pages == 0);
+    CHECK(blink_map_room(&map, 1, &rows, &pages) == BLINK_MAP_CLOSED && rows == 9 && pages == 9);
+    CHECK(blink_map_renew(&map, 1) == BLINK_MAP_CLOSED);
     blink_map_free(map);
     CHECK(blink_index_len(&closed) == 5 && blink_index_fan(&closed) == 4 && blink_index_len(&index) == 5);
     CHECK(blink_index_find(&closed, 3, &pointer) && pointer == 33 && blink_index_find(&closed, 7, &pointer) && pointer == 72);
@@ -568,35 +588,30 @@ static void changes_a_map(void) {
 
 // The room for 1,000 insertions, as it is worked out by hand; and 1,000 descending keys fit into it.
 static void has_room_for_its_insertions(void) {
-    blink_index index = {NULL}, closed = {NULL};
-    blink_map map = {NULL};
-    blink_session session = {NULL};
-    blink_answer answer;
+    blink_index index = index_of(4, five, 0);
     uint32_t pages = 0, rows = 0;
-    CHECK(blink_index_new(4, &index) == BLINK_DONE);
     // two insertions fill a half page of four again: 1 + 500 leaves, as many pages above them, 21, and 86 for each session
     blink_room_for(&index, 1000, 2, &pages, &rows);
     CHECK(pages == 1195 && rows == 2990);
     blink_room_for(&index, UINT32_MAX, 256, &pages, &rows);
     CHECK(pages == UINT32_MAX && rows == UINT32_MAX);
     blink_room_for(&index, 1000, 1, &pages, &rows);
-    CHECK(blink_map_open(&index, pages, rows, 1, &map) == BLINK_DONE && blink_map_join(&map, &session) == BLINK_DONE);
-    for (uint64_t key = 1000; key > 0; key--) CHECK(blink_session_insert_wait(&session, key, key, &answer) == BLINK_DONE);
+    blink_map map = map_with_room(&index, pages, rows, 1, true);
+    blink_session session = session_of(&map);
+    for (uint64_t key = 1000; key > 0; key--) CHECK(is(changes(&session, BLINK_INSERT, key, key), BLINK_INSERTED, 0));
     blink_session_free(session);
-    CHECK(blink_map_close(&map, &closed) == BLINK_DONE && blink_index_len(&closed) == 1000);
-    blink_map_free(map);
-    blink_index_free(closed);
+    blink_index_free(closed_with(map, 1000));
     blink_index_free(index);
 }
 
 // A change that meets no other session ends at its first call: of 1,600,000 changes of one session none comes back pending. 200,000 puts
 // among them insert, and as many replace.
 static void changes_end_at_once(void) {
-    blink_index index = index_of(4, five, 6), closed = {NULL};
+    blink_index index = index_of(4, five, 6);
     blink_map map = {NULL};
-    blink_session one = {NULL};
     uint64_t done = 0;
-    CHECK(blink_map_open(&index, 300, 600, 2, &map) == BLINK_DONE && blink_map_join(&map, &one) == BLINK_DONE);
+    CHECK(blink_map_open(&index, &map) == BLINK_DONE);
+    blink_session one = session_of(&map);
     for (uint64_t turn = 0; turn < 200000; turn++) {
         blink_answer put = {9, 9}, again = {9, 9}, other = {9, 9}, gone = {9, 9}, back = {9, 9};
         blink_answer same = {9, 9}, new = {9, 9}, over = {9, 9};
@@ -611,26 +626,28 @@ static void changes_end_at_once(void) {
     }
     CHECK(done == 1600000);
     blink_session_free(one);
-    CHECK(blink_map_close(&map, &closed) == BLINK_DONE && blink_index_len(&closed) == 5);
-    blink_map_free(map);
-    blink_index_free(closed);
+    blink_index_free(closed_with(map, 5));
     blink_index_free(index);
+}
+
+// Whether a map isn't opened with this room, whether it is fixed or not.
+static bool refuses_room(const blink_index *index, uint32_t pages, uint32_t sessions, int code) {
+    blink_map map = {NULL};
+    return blink_map_open_with_room(index, pages, 44, sessions, false, &map) == code && map.at == NULL &&
+           blink_map_open_with_room(index, pages, 44, sessions, true, &map) == code && map.at == NULL;
 }
 
 static void refuses_at_a_map(void) {
     blink_index index = index_of(4, five, 6), closed = {NULL};
-    blink_map map = {NULL}, other = {NULL};
-    blink_session one = {NULL}, two = {NULL}, foreign = {NULL};
+    blink_session none = {NULL};
     blink_answer answer = {9, 9};
     // 3 pages and 1,048,572 numbers are as many as there may be; the sessions are looked at first
-    CHECK(blink_map_open(&index, 1048573, 0, 0, &map) == BLINK_BAD_SESSIONS && map.at == NULL);
-    CHECK(blink_map_open(&index, 0, 0, 257, &map) == BLINK_BAD_SESSIONS);
-    CHECK(blink_map_open(&index, 1048573, 0, 256, &map) == BLINK_MAP_TOO_LARGE && map.at == NULL);
-    CHECK(blink_map_open(&index, 22, 46, 2, &map) == BLINK_DONE && blink_map_open(&index, 0, 0, 256, &other) == BLINK_DONE);
-    CHECK(blink_map_join(&map, &one) == BLINK_DONE && blink_map_join(&map, &two) == BLINK_DONE);
-    CHECK(blink_map_join(&map, &foreign) == BLINK_NO_SESSION && foreign.at == NULL);
-    CHECK(blink_map_join(&other, &foreign) == BLINK_DONE);
-    CHECK(blink_session_tell(&one, &foreign) == BLINK_FOREIGN && blink_session_tell(&foreign, &one) == BLINK_FOREIGN);
+    CHECK(refuses_room(&index, 1048573, 0, BLINK_BAD_SESSIONS) && refuses_room(&index, 0, 257, BLINK_BAD_SESSIONS));
+    CHECK(refuses_room(&index, 1048573, 256, BLINK_MAP_TOO_LARGE) && refuses_room(&index, 1048573, 1, BLINK_MAP_TOO_LARGE));
+    blink_map map = map_with_room(&index, 22, 46, 2, true), other = map_with_room(&index, 0, 0, 256, true);
+    blink_session one = session_of(&map), two = session_of(&map), foreign = session_of(&other);
+    CHECK(blink_map_join(&map, &none) == BLINK_NO_SESSION && none.at == NULL);
+    CHECK(blink_session_tell(&one, &foreign, 1) == BLINK_FOREIGN && blink_session_tell(&foreign, &one, 1) == BLINK_FOREIGN);
     CHECK(blink_session_advance(&one, 1, &answer) == BLINK_IDLE && answer.kind == 9);
     // the first session draws 44 rows and all 22 numbers, so there are 2 rows for the second, and no number
     CHECK(is(changes(&one, BLINK_INSERT, 6, 60), BLINK_INSERTED, 0));
@@ -646,17 +663,18 @@ static void refuses_at_a_map(void) {
     CHECK(blink_session_exchange(&foreign, 2, 20, 21, 100, &answer) == BLINK_FULL);
     CHECK(blink_session_delete_exact(&foreign, 2, 20, 100, &answer) == BLINK_FULL);
     CHECK(blink_session_delete_wait(&foreign, 2, &answer) == BLINK_FULL && blink_session_put_wait(&foreign, 2, 21, &answer) == BLINK_FULL);
+    CHECK(answer.kind == 9 && blink_map_renew(&other, 1) == BLINK_FULL);
     // the place of a session that is freed can be taken again, with what it has drawn
     blink_session_free(two);
-    two = (blink_session){NULL};
-    CHECK(blink_map_join(&map, &two) == BLINK_DONE && is(changes(&two, BLINK_DELETE, 2, NONE), BLINK_REMOVED, 999));
+    two = session_of(&map);
+    CHECK(is(changes(&two, BLINK_DELETE, 2, NONE), BLINK_REMOVED, 999));
     blink_session_free(two);
-    two = (blink_session){NULL};
     // another handle of a map that isn't freed: the close is refused, and both handles stay
     blink_map again = {NULL};
     CHECK(blink_map_share(&map, &again) == BLINK_DONE);
     CHECK(blink_map_close(&map, &closed) == BLINK_SESSION_MISSING && closed.at == NULL);
-    CHECK(blink_map_join(&again, &two) == BLINK_DONE && is(changes(&two, BLINK_FIND, 6, NONE), BLINK_FOUND, 60));
+    two = session_of(&again);
+    CHECK(is(changes(&two, BLINK_FIND, 6, NONE), BLINK_FOUND, 60));
     blink_session_free(two);
     blink_map_free(again);
     // a session that isn't freed: the close is refused, and succeeds once it is
@@ -664,12 +682,65 @@ static void refuses_at_a_map(void) {
     CHECK(is(changes(&one, BLINK_FIND, 6, NONE), BLINK_FOUND, 60));
     blink_session_free(one);
     uint64_t pointer;
-    CHECK(blink_map_close(&map, &closed) == BLINK_DONE && blink_index_find(&closed, 6, &pointer) && pointer == 60);
+    closed = closed_with(map, 4);
+    CHECK(blink_index_find(&closed, 6, &pointer) && pointer == 60);
     blink_index_free(closed);
-    blink_map_free(map);
     blink_map_free(other);
     CHECK(is(changes(&foreign, BLINK_FIND, 2, NONE), BLINK_FOUND, 20));
     blink_session_free(foreign);
+    blink_index_free(index);
+}
+
+// While a session is held, the map is neither renewed nor closed, and its calls go on. A session that tells another one, or is told, is held
+// again afterwards.
+static void holds_a_session(void) {
+    blink_index index = index_of(4, five, 6), closed = {NULL};
+    blink_map map = {NULL};
+    uint64_t rows = 9, pages = 9;
+    CHECK(blink_map_open(&index, &map) == BLINK_DONE);
+    blink_session one = session_of(&map), other = session_of(&map);
+    CHECK(blink_map_renew(&map, 1) == BLINK_DONE && blink_session_hold(&one, 1) == BLINK_DONE && blink_session_hold(&one, 1) == BLINK_DONE);
+    CHECK(blink_map_renew(&map, 1) == BLINK_RENEWING && is(changes(&one, BLINK_FIND, 3, NONE), BLINK_FOUND, 30));
+    CHECK(is(puts_so(&one, 6, 60), BLINK_INSERTED, 0) && is(puts_so(&other, 7, 70), BLINK_INSERTED, 0));
+    CHECK(blink_map_renew(&map, 1) == BLINK_RENEWING && blink_map_room(&map, 1, &rows, &pages) == BLINK_DONE && rows > 0 && pages > 0);
+    CHECK(blink_session_tell(&one, &other, 1) == BLINK_DONE && blink_map_renew(&map, 1) == BLINK_RENEWING);
+    CHECK(blink_session_tell_wait(&other, &one) == BLINK_DONE && blink_map_renew(&map, 1) == BLINK_RENEWING);
+    blink_session_let_go(&one);
+    CHECK(blink_map_renew(&map, 1) == BLINK_DONE && blink_session_hold_wait(&other) == BLINK_DONE);
+    CHECK(blink_map_renew(&map, 1) == BLINK_RENEWING && blink_map_close(&map, &closed) == BLINK_SESSION_MISSING);
+    blink_session_let_go(&other), blink_session_let_go(&other);
+    CHECK(blink_map_renew(&map, 1) == BLINK_DONE && is(changes(&one, BLINK_FIND, 7, NONE), BLINK_FOUND, 70));
+    // a session that is held may be freed
+    CHECK(blink_session_hold(&one, 1) == BLINK_DONE);
+    blink_session_free(one), blink_session_free(other);
+    blink_index_free(closed_with(map, 7));
+    // the room is looked up by a session that nobody holds
+    map = map_with_room(&index, 300, 600, 1, true);
+    one = session_of(&map);
+    rows = pages = 9;
+    CHECK(blink_session_hold(&one, 1) == BLINK_DONE && blink_map_room(&map, 1, &rows, &pages) == BLINK_RENEWING && rows == 9 && pages == 9);
+    blink_session_let_go(&one);
+    CHECK(has_left(&map, 600, 300));
+    blink_session_free(one);
+    blink_index_free(closed_with(map, 5));
+    blink_index_free(index);
+}
+
+// A map has places for 256 sessions, and each of them can insert.
+static void takes_each_place(void) {
+    enum { PLACES = 256 };
+    static blink_session sessions[PLACES + 1];
+    blink_index index = index_of(4, five, 6);
+    blink_map map = {NULL};
+    CHECK(blink_map_open(&index, &map) == BLINK_DONE);
+    for (int i = 0; i < PLACES; i++) sessions[i] = session_of(&map);
+    CHECK(blink_map_join(&map, &sessions[PLACES]) == BLINK_NO_SESSION && sessions[PLACES].at == NULL);
+    blink_session_free(sessions[7]);
+    sessions[7] = session_of(&map);
+    CHECK(blink_map_join(&map, &sessions[PLACES]) == BLINK_NO_SESSION);
+    for (uint64_t i = 0; i < PLACES; i++) CHECK(is(changes(&sessions[i], BLINK_INSERT, 100 + i, i), BLINK_INSERTED, 0));
+    for (int i = 0; i < PLACES; i++) blink_session_free(sessions[i]);
+    blink_index_free(closed_with(map, 5 + PLACES));
     blink_index_free(index);
 }
 
@@ -692,8 +763,9 @@ static void *replaces_five(void *at) {
 }
 
 // Puts an absent key, until a put comes back pending, since `other` has the page that it wants. Key 5 lies on this page. Nothing is under
-// way by `other` then. No put without another thread's does so.
-static void leaves_a_put_under_way(blink_session *one, blink_session *other, uint64_t key, uint64_t pointer) {
+// way by `other` then. No put without another thread's does so. Until then a put is made, or rows are on their way back, or it is refused
+// with this code.
+static void leaves_a_put_under_way(blink_session *one, blink_session *other, uint64_t key, uint64_t pointer, int refusal) {
     replacer it = {other, PTHREAD_MUTEX_INITIALIZER, false};
     pthread_t thread;
     blink_answer answer = {9, 9};
@@ -701,7 +773,7 @@ static void leaves_a_put_under_way(blink_session *one, blink_session *other, uin
     CHECK(pthread_create(&thread, NULL, replaces_five, &it) == 0);
     for (long tries = 0; tries < 20000000 && code != BLINK_PENDING; tries++) {
         code = blink_session_put(one, key, pointer, 1, &answer);
-        CHECK(code == BLINK_DONE || code == BLINK_PENDING || code == BLINK_ROWS_BUSY);
+        CHECK(code == BLINK_DONE || code == BLINK_PENDING || code == BLINK_ROWS_BUSY || code == refusal);
         if (code == BLINK_DONE) CHECK(is(answer, BLINK_INSERTED, 0) && is(changes(one, BLINK_DELETE, key, NONE), BLINK_REMOVED, pointer));
     }
     pthread_mutex_lock(&it.lock);
@@ -710,31 +782,33 @@ static void leaves_a_put_under_way(blink_session *one, blink_session *other, uin
     CHECK(pthread_join(thread, NULL) == 0 && code == BLINK_PENDING);
 }
 
-// While a put is under way, nothing else can be done by its session.
-static void refuses_under_way(void) {
+// While a put is under way, nothing else can be done by its session, and the map isn't renewed.
+static void refuses_under_way(bool fixed) {
     blink_index index = index_of(4, five, 6), closed = {NULL};
-    blink_map map = {NULL};
-    blink_session one = {NULL}, other = {NULL};
+    blink_map map = map_with_room(&index, 300, 600, 2, fixed), apart = map_with_room(&index, 0, 0, 1, true);
+    blink_session one = session_of(&map), other = session_of(&map), foreign = session_of(&apart);
     blink_answer answer = {9, 9};
-    CHECK(blink_map_open(&index, 300, 600, 2, &map) == BLINK_DONE);
-    CHECK(blink_map_join(&map, &one) == BLINK_DONE && blink_map_join(&map, &other) == BLINK_DONE);
     blink_entry range[2] = {{9, 9}, {9, 9}};
     blink_scanned scanned = {9, 9, 9};
-    CHECK(blink_session_scan_back(&one, 0, 4, range, 2, &scanned) == BLINK_DONE && scanned.filled == 2 && scanned.more == 1 && scanned.next == 2);
+    int unrenewed = fixed ? BLINK_FULL : BLINK_RENEWING;
+    CHECK(blink_session_scan_back(&one, 0, 4, 1, range, 2, &scanned) == BLINK_DONE && scanned.filled == 2 && scanned.more == 1 && scanned.next == 2);
     CHECK(range[0].key == 4 && range[0].pointer == 40 && range[1].key == 3 && range[1].pointer == 30);
-    CHECK(blink_session_scan(&one, 4, 9, range, 2, &scanned) == BLINK_DONE && scanned.filled == 2 && scanned.more == 0);
+    CHECK(blink_session_scan(&one, 4, 9, 1, range, 2, &scanned) == BLINK_DONE && scanned.filled == 2 && scanned.more == 0);
     CHECK(range[0].key == 4 && range[0].pointer == 40 && range[1].key == 5 && range[1].pointer == 50);
     blink_taken snapshot = {9, 9};
     CHECK(blink_session_snapshot(&one, 5, 9, 1, range, 2, &snapshot) == BLINK_DONE && snapshot.taken == 1 && snapshot.there == 1);
     CHECK(range[0].key == 5 && range[0].pointer == 50 && range[1].key == 5);
-    CHECK(blink_session_scan(&one, 4, 9, range, 2, &scanned) == BLINK_DONE && scanned.filled == 2);
-    leaves_a_put_under_way(&one, &other, 9, 99);
+    CHECK(blink_session_scan(&one, 4, 9, 1, range, 2, &scanned) == BLINK_DONE && scanned.filled == 2);
+    leaves_a_put_under_way(&one, &other, 9, 99, unrenewed);
     CHECK(blink_session_snapshot(&one, 0, 9, 1, range, 2, &snapshot) == BLINK_PENDING && snapshot.there == 1);
-    CHECK(blink_session_scan(&one, 0, 9, range, 2, &scanned) == BLINK_PENDING && range[0].key == 4 && scanned.filled == 2);
-    CHECK(blink_session_scan_back(&one, 0, 9, range, 2, &scanned) == BLINK_PENDING && range[0].key == 4 && scanned.filled == 2);
-    CHECK(blink_session_find(&one, 3, &answer) == BLINK_PENDING && blink_session_insert(&one, 9, 90, 100, &answer) == BLINK_PENDING);
-    CHECK(blink_session_delete(&one, 3, 100, &answer) == BLINK_PENDING && blink_session_put(&one, 9, 90, 100, &answer) == BLINK_PENDING);
-    CHECK(blink_session_replace(&one, 3, 34, 100, &answer) == BLINK_PENDING);
+    CHECK(blink_session_snapshot_wait(&one, 0, 9, 1, range, 2, &snapshot) == BLINK_PENDING && snapshot.there == 1);
+    CHECK(blink_session_scan(&one, 0, 9, 1, range, 2, &scanned) == BLINK_PENDING && range[0].key == 4 && scanned.filled == 2);
+    CHECK(blink_session_scan_wait(&one, 0, 9, range, 2, &scanned) == BLINK_PENDING && range[0].key == 4 && scanned.filled == 2);
+    CHECK(blink_session_scan_back(&one, 0, 9, 1, range, 2, &scanned) == BLINK_PENDING && range[0].key == 4 && scanned.filled == 2);
+    CHECK(blink_session_scan_back_wait(&one, 0, 9, range, 2, &scanned) == BLINK_PENDING && range[0].key == 4 && scanned.filled == 2);
+    CHECK(blink_session_find(&one, 3, 1, &answer) == BLINK_PENDING && blink_session_find_wait(&one, 3, &answer) == BLINK_PENDING);
+    CHECK(blink_session_insert(&one, 9, 90, 100, &answer) == BLINK_PENDING && blink_session_put(&one, 9, 90, 100, &answer) == BLINK_PENDING);
+    CHECK(blink_session_delete(&one, 3, 100, &answer) == BLINK_PENDING && blink_session_replace(&one, 3, 34, 100, &answer) == BLINK_PENDING);
     CHECK(blink_session_exchange(&one, 3, 30, 34, 100, &answer) == BLINK_PENDING);
     CHECK(blink_session_delete_exact(&one, 3, 30, 100, &answer) == BLINK_PENDING);
     CHECK(blink_session_insert_wait(&one, 9, 90, &answer) == BLINK_PENDING && blink_session_put_wait(&one, 9, 90, &answer) == BLINK_PENDING);
@@ -742,59 +816,86 @@ static void refuses_under_way(void) {
     CHECK(blink_session_exchange_wait(&one, 3, 30, 34, &answer) == BLINK_PENDING);
     CHECK(blink_session_delete_exact_wait(&one, 3, 30, &answer) == BLINK_PENDING);
     blink_reserve stock = {9, 9, 9, 9, 9};
-    CHECK(blink_session_reserve(&one, &stock) == BLINK_PENDING && stock.pages == 9 && stock.waiting == 9);
-    CHECK(blink_session_tell(&one, &other) == BLINK_PENDING && blink_session_tell(&other, &one) == BLINK_PENDING);
+    CHECK(blink_session_reserve(&one, 1, &stock) == BLINK_PENDING && blink_session_reserve_wait(&one, &stock) == BLINK_PENDING);
+    CHECK(stock.pages == 9 && stock.waiting == 9);
+    CHECK(blink_session_hold(&one, 1) == BLINK_PENDING && blink_session_hold_wait(&one) == BLINK_PENDING);
+    CHECK(blink_session_tell(&one, &other, 1) == BLINK_PENDING && blink_session_tell_wait(&other, &one) == BLINK_PENDING);
+    CHECK(blink_session_tell(&one, &foreign, 1) == BLINK_FOREIGN && blink_session_tell(&foreign, &one, 1) == BLINK_FOREIGN);
+    CHECK(blink_map_renew(&map, 1) == unrenewed && blink_map_close(&map, &closed) == BLINK_SESSION_MISSING && closed.at == NULL);
     CHECK(answer.kind == 9 && is(changes(&other, BLINK_FIND, 3, NONE), BLINK_FOUND, 30));
     CHECK(blink_session_advance(&one, 1, &answer) == BLINK_DONE && is(answer, BLINK_INSERTED, 0));
     CHECK(blink_session_advance(&one, 1, &answer) == BLINK_IDLE && is(changes(&one, BLINK_FIND, 9, NONE), BLINK_FOUND, 99));
+    CHECK(blink_map_renew(&map, 1) == (fixed ? BLINK_FULL : BLINK_DONE));
     // where another session inserts the key meanwhile, the put replaces it; where it deletes it again, the put inserts
-    leaves_a_put_under_way(&one, &other, 8, 80);
+    leaves_a_put_under_way(&one, &other, 8, 80, unrenewed);
     CHECK(is(changes(&other, BLINK_INSERT, 8, 85), BLINK_INSERTED, 0));
     CHECK(blink_session_finish(&one, &answer) == BLINK_DONE && is(answer, BLINK_REPLACED, 85));
     CHECK(is(changes(&other, BLINK_DELETE, 8, NONE), BLINK_REMOVED, 80));
-    leaves_a_put_under_way(&one, &other, 8, 81);
+    leaves_a_put_under_way(&one, &other, 8, 81, unrenewed);
     CHECK(is(changes(&other, BLINK_INSERT, 8, 85), BLINK_INSERTED, 0) && is(changes(&other, BLINK_DELETE, 8, NONE), BLINK_REMOVED, 85));
     CHECK(blink_session_finish(&one, &answer) == BLINK_DONE && is(answer, BLINK_INSERTED, 0));
     CHECK(is(changes(&other, BLINK_FIND, 8, NONE), BLINK_FOUND, 81));
     CHECK(blink_session_finish(&one, &answer) == BLINK_IDLE);
     // a session that is freed under way: the put is made, whichever half of it is under way, and its place can be taken again
     for (uint64_t turn = 0; turn < 20; turn++) {
-        leaves_a_put_under_way(&one, &other, 7, 70 + turn);
+        leaves_a_put_under_way(&one, &other, 7, 70 + turn, unrenewed);
         blink_session_free(one);
-        one.at = NULL;
-        CHECK(blink_map_join(&map, &one) == BLINK_DONE && is(changes(&one, BLINK_FIND, 7, NONE), BLINK_FOUND, 70 + turn));
+        one = session_of(&map);
+        CHECK(is(changes(&one, BLINK_FIND, 7, NONE), BLINK_FOUND, 70 + turn));
         CHECK(is(changes(&other, BLINK_DELETE, 7, NONE), BLINK_REMOVED, 70 + turn));
     }
     // the same where another session has inserted the key meanwhile, so that the put's insertion gives way to a replacement
-    leaves_a_put_under_way(&one, &other, 7, 70);
+    leaves_a_put_under_way(&one, &other, 7, 70, unrenewed);
     CHECK(is(changes(&other, BLINK_INSERT, 7, 75), BLINK_INSERTED, 0));
-    blink_session_free(one), blink_session_free(other);
+    blink_session_free(one), blink_session_free(other), blink_session_free(foreign);
+    blink_map_free(apart);
     uint64_t pointer;
-    CHECK(blink_map_close(&map, &closed) == BLINK_DONE);
+    closed = closed_with(map, 8);
     CHECK(blink_index_find(&closed, 7, &pointer) && pointer == 70);
     CHECK(blink_index_find(&closed, 8, &pointer) && pointer == 81);
     blink_index_free(closed);
-    blink_map_free(map);
+    blink_index_free(index);
+}
+
+// A put whose replacement is under way, and whose insertion finds no room then: it is refused as it goes on, and nothing is put. So it is
+// where its session is freed.
+static void refuses_the_other_half(void) {
+    blink_index index = index_of(4, five, 6), closed;
+    blink_map map = map_with_room(&index, 22, 46, 2, true);
+    blink_session one = session_of(&map), two = session_of(&map);
+    blink_answer answer = {9, 9};
+    // the first session draws 44 rows and all 22 numbers, so there are 2 rows for the second, and no number
+    CHECK(is(changes(&one, BLINK_INSERT, 6, 60), BLINK_INSERTED, 0));
+    leaves_a_put_under_way(&two, &one, 9, 90, BLINK_FULL);
+    CHECK(blink_session_finish(&two, &answer) == BLINK_FULL && answer.kind == 9);
+    CHECK(blink_session_advance(&two, 1, &answer) == BLINK_IDLE && is(changes(&two, BLINK_FIND, 9, NONE), BLINK_ABSENT, 0));
+    leaves_a_put_under_way(&two, &one, 9, 90, BLINK_FULL);
+    blink_session_free(two);
+    CHECK(is(changes(&one, BLINK_INSERT, 5, 51), BLINK_EXISTS, 50));
+    blink_session_free(one);
+    uint64_t pointer;
+    closed = closed_with(map, 6);
+    CHECK(!blink_index_find(&closed, 9, &pointer));
+    blink_index_free(closed);
     blink_index_free(index);
 }
 
 // A session and a pass live on after their map and their table, whose places no other gets meanwhile.
 static void tells_others_apart(void) {
     blink_index index = index_of(4, five, 6);
-    blink_map map = {NULL};
+    blink_map map = map_with_room(&index, 0, 0, 2, true);
     blink_table table = {NULL};
-    blink_session session = {NULL};
+    blink_session session = session_of(&map);
     blink_pass pass = {NULL};
     uint64_t key = 3, taken, bad_key = 8;
-    CHECK(blink_map_open(&index, 0, 0, 2, &map) == BLINK_DONE && blink_map_join(&map, &session) == BLINK_DONE);
     CHECK(blink_table_open(&index, 0, 0, &table) == BLINK_DONE && blink_table_deal(&table, &key, 1, 0, 0, &pass, &taken) == BLINK_DONE);
     blink_map_free(map), blink_table_free(table);
     for (int turn = 0; turn < 100; turn++) {
-        blink_session other = {NULL};
         blink_pass more = {NULL};
-        map.at = table.at = NULL;
-        CHECK(blink_map_open(&index, 0, 0, 2, &map) == BLINK_DONE && blink_map_join(&map, &other) == BLINK_DONE);
-        CHECK(blink_session_tell(&session, &other) == BLINK_FOREIGN && blink_session_tell(&other, &session) == BLINK_FOREIGN);
+        table.at = NULL;
+        map = map_with_room(&index, 0, 0, 2, turn % 2);
+        blink_session other = session_of(&map);
+        CHECK(blink_session_tell(&session, &other, 1) == BLINK_FOREIGN && blink_session_tell(&other, &session, 1) == BLINK_FOREIGN);
         blink_session_free(other), blink_map_free(map);
         CHECK(blink_table_open(&index, 0, 0, &table) == BLINK_DONE && blink_table_return(&table, &pass) == BLINK_FOREIGN);
         CHECK(blink_table_deal(&table, &key, 1, 0, 0, &more, &taken) == BLINK_DONE && blink_pass_tell(&pass, &more) == BLINK_FOREIGN);
@@ -825,8 +926,7 @@ static void *changes_any_key(void *at) {
         if (turn % 500 == 0) {
             pthread_mutex_lock(&room.joins);
             if (turn) blink_session_free(session);
-            session.at = NULL;
-            CHECK(blink_map_join(map, &session) == BLINK_DONE);
+            session = session_of(map);
             pthread_mutex_unlock(&room.joins);
         }
         state = state * 6364136223846793005u + 1442695040888963407u;
@@ -849,7 +949,7 @@ static void shares_a_map(void) {
     blink_map map = {NULL};
     pthread_t threads[SESSIONS];
     CHECK(blink_index_new(4, &index) == BLINK_DONE);
-    CHECK(blink_map_open(&index, 40000, 80000, SESSIONS, &map) == BLINK_DONE);
+    CHECK(blink_map_open(&index, &map) == BLINK_DONE);
     pthread_mutex_init(&room.joins, NULL);
     for (uintptr_t i = 0; i < SESSIONS; i++) CHECK(blink_map_share(&map, &room.maps[i]) == BLINK_DONE);
     for (uintptr_t i = 0; i < SESSIONS; i++)
@@ -870,12 +970,12 @@ static void shares_a_map(void) {
 static void *joins_again(void *at) {
     blink_map *map = at;
     for (int turn = 0; turn < 500; turn++) {
-        blink_session session = {NULL};
+        blink_session session = session_of(map);
         blink_map again = {NULL};
-        uint64_t rows, pages;
-        CHECK(blink_map_join(map, &session) == BLINK_DONE);
-        blink_map_room(map, &rows, &pages);
-        CHECK(pages <= 3000 && blink_map_share(map, &again) == BLINK_DONE);
+        uint64_t rows = 0, pages = 0;
+        int code = blink_map_room(map, BLINK_TRIES, &rows, &pages);
+        CHECK((code == BLINK_DONE && rows <= 100000 && pages <= 3000) || (code == BLINK_RENEWING && rows == 0 && pages == 0));
+        CHECK(blink_map_share(map, &again) == BLINK_DONE);
         blink_map_free(again);
         puts_so(&session, (uint64_t)turn, (uint64_t)turn);
         blink_session_free(session);
@@ -884,16 +984,77 @@ static void *joins_again(void *at) {
 }
 
 static void joins_at_once(void) {
-    blink_index index = {NULL}, closed = {NULL};
-    blink_map map = {NULL};
+    blink_index index = index_of(32, five, 0);
+    blink_map map = map_with_room(&index, 3000, 100000, SESSIONS, true);
     pthread_t threads[SESSIONS];
-    CHECK(blink_index_new(32, &index) == BLINK_DONE && blink_map_open(&index, 3000, 100000, SESSIONS, &map) == BLINK_DONE);
     for (int i = 0; i < SESSIONS; i++) CHECK(pthread_create(&threads[i], NULL, joins_again, &map) == 0);
     for (int i = 0; i < SESSIONS; i++) CHECK(pthread_join(threads[i], NULL) == 0);
-    CHECK(blink_map_close(&map, &closed) == BLINK_DONE && blink_index_len(&closed) == 500);
-    blink_map_free(map);
-    blink_index_free(closed);
+    blink_index_free(closed_with(map, 500));
     blink_index_free(index);
+}
+
+// A map with a room that is fixed or not. Its leaf has 4 entries, and there are rows for one split: the fifth insertion makes it.
+static void opens_a_map_with_room(bool fixed) {
+    blink_reserve reserve = {9, 9, 9, 9, 9};
+    blink_index index = index_of(4, five, 0);
+    blink_map map = map_with_room(&index, 200, 44, 1, fixed);
+    blink_session session = session_of(&map), other = {NULL};
+    blink_answer answer = {9, 9};
+    CHECK(has(&session, (blink_reserve){0, 0, 0, 0, 0}) && has_left(&map, 44, 200));
+    // a fixed map has the places of its room
+    CHECK(blink_map_join(&map, &other) == (fixed ? BLINK_NO_SESSION : BLINK_DONE));
+    for (uint64_t key = 1; key < 6; key++) CHECK(is(changes(&session, BLINK_INSERT, key, 10 * key), BLINK_INSERTED, 0));
+    // it drew 64 page numbers, or 22 at least, and the 44 rows; the split and the new root took two numbers, and wrote three pages and the
+    // prime block
+    CHECK(blink_session_reserve_wait(&session, &reserve) == BLINK_DONE && reserve.unwritten == 40);
+    CHECK(fixed ? reserve.pages == 62 : reserve.pages >= 20 && reserve.pages <= 62);
+    if (fixed) {
+        CHECK(blink_session_insert_wait(&session, 6, 60, &answer) == BLINK_FULL && answer.kind == 9);
+    } else {
+        // while another session is held, the map isn't renewed; while this one is, its change lets it go for that
+        CHECK(blink_session_hold(&other, 1) == BLINK_DONE);
+        CHECK(blink_session_insert(&session, 6, 60, 1, &answer) == BLINK_RENEWING && blink_session_put(&session, 6, 60, 1, &answer) == BLINK_RENEWING);
+        CHECK(answer.kind == 9 && is(changes(&session, BLINK_FIND, 6, NONE), BLINK_ABSENT, 0));
+        blink_session_let_go(&other);
+        CHECK(blink_session_hold(&session, 1) == BLINK_DONE && is(changes(&session, BLINK_INSERT, 6, 60), BLINK_INSERTED, 0));
+        blink_session_let_go(&session);
+        blink_session_free(other);
+    }
+    CHECK(is(changes(&session, BLINK_FIND, 6, NONE), fixed ? BLINK_ABSENT : BLINK_FOUND, fixed ? 0 : 60));
+    CHECK(blink_map_renew(&map, 1) == (fixed ? BLINK_FULL : BLINK_DONE));
+    CHECK(is(changes(&session, BLINK_INSERT, 5, 51), BLINK_EXISTS, 50) && is(puts_so(&session, 5, 52), BLINK_REPLACED, 50));
+    CHECK(is(changes(&session, BLINK_DELETE, 1, NONE), BLINK_REMOVED, 10));
+    CHECK(is(changes(&session, BLINK_FIND, 5, NONE), BLINK_FOUND, 52) && is(changes(&session, BLINK_FIND, 1, NONE), BLINK_ABSENT, 0));
+    blink_session_free(session);
+    blink_index_free(closed_with(map, fixed ? 4 : 5));
+    blink_index_free(index);
+}
+
+static void *grows_from_nothing(void *at) {
+    blink_map *map = at;
+    blink_session session = session_of(map);
+    uint64_t first = (uint64_t)(uintptr_t)session.at;
+    for (uint64_t key = 0; key < 5000; key++) {
+        puts_so(&session, key, first);
+        CHECK(changes(&session, BLINK_FIND, key, NONE).kind == BLINK_FOUND);
+    }
+    blink_session_free(session);
+    blink_map_free(*map);
+    return NULL;
+}
+
+// Two threads put each key into a map with room for one split, which has to be renewed often.
+static void grows_by_threads(void) {
+    blink_index index = index_of(4, five, 0);
+    blink_map map = map_with_room(&index, 22, 44, 1, false), shares[2] = {{NULL}, {NULL}};
+    pthread_t threads[2];
+    blink_index_free(index);
+    for (int it = 0; it < 2; it++) {
+        CHECK(blink_map_share(&map, &shares[it]) == BLINK_DONE);
+        CHECK(pthread_create(&threads[it], NULL, grows_from_nothing, &shares[it]) == 0);
+    }
+    for (int it = 0; it < 2; it++) CHECK(pthread_join(threads[it], NULL) == 0);
+    blink_index_free(closed_with(map, 5000));
 }
 
 enum { READERS = 8, READ = 3000 };
@@ -981,193 +1142,48 @@ static bool gives_up_its_key(blink_table *table, blink_pass *pass, uint64_t key)
     return code == BLINK_DONE;
 }
 
-// One use of all that takes memory at a map: whether none was refused. A refusal leaves the map and its places as they were.
-static bool uses_a_map(blink_index *index) {
-    blink_map map = {NULL};
-    blink_session session = {NULL};
-    blink_index closed = {NULL};
-    blink_answer answer = {9, 9};
-    int code = blink_map_open(index, 22, 45, 1, &map);
-    if (code != BLINK_DONE) return CHECK(code == BLINK_NO_MEMORY && map.at == NULL), false;
-    blink_map again = {NULL};
-    code = blink_map_share(&map, &again);
-    if (code == BLINK_DONE) blink_map_free(again);
-    else CHECK(code == BLINK_NO_MEMORY && again.at == NULL);
-    bool shared = code == BLINK_DONE;
-    code = blink_map_join(&map, &session);
-    if (code != BLINK_DONE) {
-        CHECK(code == BLINK_NO_MEMORY && session.at == NULL);
-        refused_at = -1;
-        CHECK(blink_map_join(&map, &session) == BLINK_DONE);
-        blink_session_free(session);
-        blink_map_free(map);
-        return false;
+// Makes a call with each of its requests for memory refused in turn, until it is made. After each refusal `still` holds. Of the many requests
+// for the places of 256 sessions, which are alike, every 31st is refused.
+#define UNTIL_MADE(call, still)                                                             \
+    for (long at = 0, code = BLINK_NO_MEMORY; code != BLINK_DONE; at += at < 60 ? 1 : 31) { \
+        refused_at = at;                                                                    \
+        code = call;                                                                        \
+        refused_at = -1;                                                                    \
+        CHECK(code == BLINK_DONE ? at > 0 : code == BLINK_NO_MEMORY && (still));            \
     }
-    CHECK(is(changes(&session, BLINK_INSERT, 7, 70), BLINK_INSERTED, 0));
-    blink_session_free(session);
-    code = blink_map_close(&map, &closed);
-    bool refused = code == BLINK_NO_MEMORY;
-    if (refused) {
-        // the map stays, and closes with all entries once there is memory
-        CHECK(closed.at == NULL);
-        refused_at = -1;
-        code = blink_map_close(&map, &closed);
-    }
-    CHECK(code == BLINK_DONE);
-    CHECK(blink_index_find(&closed, 7, &answer.pointer) && answer.pointer == 70 && blink_index_len(&closed) == blink_index_len(index) + 1);
-    blink_index_free(closed);
-    closed.at = NULL;
-    CHECK(blink_map_close(&map, &closed) == BLINK_MAP_CLOSED && closed.at == NULL);
-    blink_map_free(map);
-    return shared && !refused;
-}
 
-static bool grows(blink_growing_session *session, uint64_t key, uint64_t kind, uint64_t pointer) {
-    blink_answer answer = {9, 9};
-    return blink_growing_session_find_wait(session, key, &answer) == BLINK_DONE && is(answer, kind, pointer);
-}
-
-// A growing map by one thread: its calls, a hold that keeps it from being renewed, and each refusal of its ends.
-static void changes_a_growing_map(void) {
+// Each call of a map that takes memory. A refusal leaves the map as it was, so that the call can be made again.
+static void needs_memory_for_a_map(bool fixed) {
     blink_index index = index_of(4, five, 6), closed = {NULL};
-    blink_growing map = {NULL}, other = {NULL};
-    blink_growing_session session = {NULL}, second = {NULL};
+    blink_map map = {NULL}, other = {NULL};
+    blink_session session = {NULL};
     blink_answer answer = {9, 9};
-    blink_entry entries[3];
-    blink_scanned scanned;
-    blink_taken taken;
-    CHECK(blink_growing_open(&index, 0, &map) == BLINK_BAD_SESSIONS && blink_growing_open(&index, 257, &map) == BLINK_BAD_SESSIONS);
-    CHECK(blink_growing_open(&index, 1, &map) == BLINK_DONE);
-    blink_index_free(index);
-    CHECK(blink_growing_share(&map, &other) == BLINK_DONE && blink_growing_join(&other, &session) == BLINK_DONE);
-    CHECK(blink_growing_join(&map, &second) == BLINK_NO_SESSION && second.at == NULL);
-    CHECK(grows(&session, 3, BLINK_FOUND, 30) && grows(&session, 6, BLINK_ABSENT, 0));
-    CHECK(blink_growing_session_insert_wait(&session, 6, 60, &answer) == BLINK_DONE && is(answer, BLINK_INSERTED, 0));
-    CHECK(blink_growing_session_insert_wait(&session, 6, 61, &answer) == BLINK_DONE && is(answer, BLINK_EXISTS, 60));
-    CHECK(blink_growing_session_replace_wait(&session, 1, 11, &answer) == BLINK_DONE && is(answer, BLINK_REPLACED, 10));
-    CHECK(blink_growing_session_exchange_wait(&session, 1, 10, 12, &answer) == BLINK_DONE && is(answer, BLINK_EXISTS, 11));
-    CHECK(blink_growing_session_delete_exact_wait(&session, 2, 20, &answer) == BLINK_DONE && is(answer, BLINK_REMOVED, 20));
-    CHECK(blink_growing_session_delete_wait(&session, 2, &answer) == BLINK_DONE && is(answer, BLINK_ABSENT, 0));
-    CHECK(blink_growing_session_put_wait(&session, 7, 70, &answer) == BLINK_DONE && is(answer, BLINK_INSERTED, 0));
-    CHECK(blink_growing_session_put_wait(&session, 7, 71, &answer) == BLINK_DONE && is(answer, BLINK_REPLACED, 70));
-    CHECK(blink_growing_session_advance(&session, 1, &answer) == BLINK_IDLE);
-    CHECK(blink_growing_session_scan_wait(&session, 1, 4, entries, 3, &scanned) == BLINK_DONE);
-    CHECK(scanned.filled == 3 && !scanned.more && entries[0].pointer == 11 && entries[1].key == 3 && entries[2].key == 4);
-    CHECK(blink_growing_session_scan_back_wait(&session, 1, 6, entries, 2, &scanned) == BLINK_DONE);
-    CHECK(scanned.filled == 2 && scanned.more && scanned.next == 4 && entries[0].key == 6 && entries[1].key == 5);
-    CHECK(blink_growing_session_snapshot(&session, 6, 9, 1, entries, 3, &taken) == BLINK_DONE && taken.taken && taken.there == 2);
-    // while it is held, the map isn't renewed
-    CHECK(blink_growing_renew(&map, 1) == BLINK_DONE && blink_growing_session_hold(&session, 1) == BLINK_DONE);
-    CHECK(blink_growing_renew(&map, 1) == BLINK_RENEWING && grows(&session, 7, BLINK_FOUND, 71));
-    blink_growing_session_let_go(&session);
-    CHECK(blink_growing_renew(&map, 1) == BLINK_DONE && grows(&session, 7, BLINK_FOUND, 71));
-    CHECK(blink_growing_close(&map, &closed) == BLINK_SESSION_MISSING && closed.at == NULL);
-    blink_growing_session_free(session);
-    blink_growing_free(other);
-    CHECK(blink_growing_close(&map, &closed) == BLINK_DONE && blink_index_len(&closed) == 6);
-    blink_index_free(closed);
-    closed.at = NULL;
-    CHECK(blink_growing_close(&map, &closed) == BLINK_MAP_CLOSED && blink_growing_join(&map, &session) == BLINK_NO_SESSION);
-    CHECK(blink_growing_share(&map, &other) == BLINK_MAP_CLOSED && blink_growing_renew(&map, 1) == BLINK_MAP_CLOSED);
-    blink_growing_free(map);
-}
-
-// A growing map with a room that is fixed or not. Its leaf has 4 entries, and there are rows for one split: the fifth insertion makes it.
-static void opens_a_growing_map_with_room(bool fixed) {
-    blink_reserve reserve = {9, 9, 9, 9, 9};
-    blink_index index = {NULL}, closed = {NULL};
-    blink_growing map = {NULL};
-    blink_growing_session session = {NULL};
-    blink_answer answer = {9, 9};
-    CHECK(blink_index_new(4, &index) == BLINK_DONE);
-    CHECK(blink_growing_open_with_room(&index, 200, 44, 0, fixed, &map) == BLINK_BAD_SESSIONS);
-    CHECK(blink_growing_open_with_room(&index, 200, 44, 257, fixed, &map) == BLINK_BAD_SESSIONS);
-    CHECK(blink_growing_open_with_room(&index, 1048575, 44, 1, fixed, &map) == BLINK_MAP_TOO_LARGE && map.at == NULL);
-    CHECK(blink_growing_open_with_room(&index, 200, 44, 1, fixed, &map) == BLINK_DONE);
-    blink_index_free(index);
-    CHECK(blink_growing_join(&map, &session) == BLINK_DONE);
-    CHECK(blink_growing_session_reserve(&session, 1, &reserve) == BLINK_DONE && reserve.pages == 0 && reserve.unwritten == 0);
-    for (uint64_t key = 1; key < 6; key++)
-        CHECK(blink_growing_session_insert_wait(&session, key, 10 * key, &answer) == BLINK_DONE && is(answer, BLINK_INSERTED, 0));
-    // it drew 64 page numbers and the 44 rows; the split and the new root took two numbers, and wrote three pages and the prime block
-    CHECK(blink_growing_session_reserve_wait(&session, &reserve) == BLINK_DONE && reserve.pages == 62 && reserve.unwritten == 40);
-    CHECK(blink_growing_session_insert_wait(&session, 6, 60, &answer) == (fixed ? BLINK_FULL : BLINK_DONE));
-    CHECK(grows(&session, 6, fixed ? BLINK_ABSENT : BLINK_FOUND, fixed ? 0 : 60));
-    CHECK(blink_growing_renew(&map, 1) == (fixed ? BLINK_FULL : BLINK_DONE));
-    CHECK(blink_growing_session_insert_wait(&session, 5, 51, &answer) == BLINK_DONE && is(answer, BLINK_EXISTS, 50));
-    CHECK(blink_growing_session_put_wait(&session, 5, 52, &answer) == BLINK_DONE && is(answer, BLINK_REPLACED, 50));
-    CHECK(blink_growing_session_delete_wait(&session, 1, &answer) == BLINK_DONE && is(answer, BLINK_REMOVED, 10));
-    CHECK(grows(&session, 5, BLINK_FOUND, 52) && grows(&session, 1, BLINK_ABSENT, 0));
-    blink_growing_session_free(session);
-    CHECK(blink_growing_close(&map, &closed) == BLINK_DONE && blink_index_len(&closed) == (fixed ? 4 : 5));
-    blink_index_free(closed);
-    CHECK(blink_growing_renew(&map, 1) == BLINK_MAP_CLOSED);
-    blink_growing_free(map);
-}
-
-static void *grows_from_nothing(void *at) {
-    blink_growing *map = at;
-    blink_growing_session session = {NULL};
-    blink_answer answer;
-    CHECK(blink_growing_join(map, &session) == BLINK_DONE);
-    uint64_t first = (uint64_t)(uintptr_t)session.at;
-    for (uint64_t key = 0; key < 5000; key++) {
-        CHECK(blink_growing_session_put_wait(&session, key, first, &answer) == BLINK_DONE);
-        CHECK(blink_growing_session_find_wait(&session, key, &answer) == BLINK_DONE && answer.kind == BLINK_FOUND);
+    blink_entry range[5];
+    blink_taken taken = {9, 9};
+    UNTIL_MADE(blink_map_open(&index, &other), other.at == NULL);
+    blink_map_free(other);
+    other.at = NULL;
+    UNTIL_MADE(blink_map_open_with_room(&index, 22, 44, 1, fixed, &map), map.at == NULL);
+    UNTIL_MADE(blink_map_share(&map, &other), other.at == NULL);
+    blink_map_free(other);
+    UNTIL_MADE(blink_map_join(&map, &session), session.at == NULL);
+    UNTIL_MADE(blink_session_snapshot(&session, 0, 9, 1, range, 5, &taken), taken.taken == 9);
+    CHECK(taken.taken == 1 && taken.there == 5 && range[4].pointer == 50);
+    // key 8 splits the leaf of keys 4 to 7, which takes one of the 22 page numbers, so there is no room for key 9
+    for (uint64_t key = 6; key < 9; key++) CHECK(is(changes(&session, BLINK_INSERT, key, 10 * key), BLINK_INSERTED, 0));
+    if (fixed) {
+        CHECK(blink_session_insert(&session, 9, 90, 1, &answer) == BLINK_FULL && blink_map_renew(&map, 1) == BLINK_FULL);
+    } else {
+        UNTIL_MADE(blink_session_insert(&session, 9, 90, 1, &answer), is(changes(&session, BLINK_FIND, 9, NONE), BLINK_ABSENT, 0));
+        UNTIL_MADE(blink_map_renew(&map, 1), is(changes(&session, BLINK_FIND, 9, NONE), BLINK_FOUND, 90));
     }
-    blink_growing_session_free(session);
-    blink_growing_free(*map);
-    return NULL;
-}
-
-// Two threads put each key into an empty map, which has to be renewed often.
-static void grows_by_threads(void) {
-    blink_index index = {NULL}, closed = {NULL};
-    blink_growing map = {NULL}, shares[2] = {{NULL}, {NULL}};
-    pthread_t threads[2];
-    CHECK(blink_index_new(32, &index) == BLINK_DONE && blink_growing_open(&index, 2, &map) == BLINK_DONE);
+    CHECK(is(changes(&session, BLINK_FIND, 8, NONE), BLINK_FOUND, 80));
+    blink_session_free(session);
+    UNTIL_MADE(blink_map_close(&map, &closed), closed.at == NULL);
+    CHECK(blink_index_len(&closed) == (fixed ? 8 : 9));
+    blink_index_free(closed);
+    blink_map_free(map);
     blink_index_free(index);
-    for (int it = 0; it < 2; it++) {
-        CHECK(blink_growing_share(&map, &shares[it]) == BLINK_DONE);
-        CHECK(pthread_create(&threads[it], NULL, grows_from_nothing, &shares[it]) == 0);
-    }
-    for (int it = 0; it < 2; it++) CHECK(pthread_join(threads[it], NULL) == 0);
-    CHECK(blink_growing_close(&map, &closed) == BLINK_DONE && blink_index_len(&closed) == 5000);
-    blink_index_free(closed);
-    blink_growing_free(map);
-}
-
-// One use of all that takes memory at a growing map: whether none was refused. After a refusal the map goes on, or closes later.
-static bool uses_a_growing_map(blink_index *index) {
-    blink_growing map = {NULL}, other = {NULL};
-    blink_growing_session session = {NULL};
-    blink_index closed = {NULL};
-    blink_answer answer = {9, 9};
-    int code = blink_growing_open(index, 1, &map);
-    if (code != BLINK_DONE) return CHECK(code == BLINK_NO_MEMORY && map.at == NULL), false;
-    bool all = (code = blink_growing_share(&map, &other)) == BLINK_DONE;
-    CHECK(all || (code == BLINK_NO_MEMORY && other.at == NULL));
-    if (all) blink_growing_free(other);
-    if ((code = blink_growing_join(&map, &session)) == BLINK_DONE) {
-        CHECK(blink_growing_session_insert_wait(&session, 7, 70, &answer) == BLINK_DONE && is(answer, BLINK_INSERTED, 0));
-        code = blink_growing_renew(&map, 1);
-        CHECK(code == BLINK_DONE || code == BLINK_NO_MEMORY);
-        all = all && code == BLINK_DONE;
-        CHECK(grows(&session, 7, BLINK_FOUND, 70));
-        blink_growing_session_free(session);
-    } else
-        CHECK(code == BLINK_NO_MEMORY && session.at == NULL), all = false;
-    code = blink_growing_close(&map, &closed);
-    if (code != BLINK_DONE) {
-        CHECK(code == BLINK_NO_MEMORY && closed.at == NULL);
-        all = false;
-        refused_at = -1;
-        CHECK(blink_growing_close(&map, &closed) == BLINK_DONE);
-    }
-    CHECK(blink_index_find(&closed, 5, &answer.pointer) && answer.pointer == 50);
-    blink_index_free(closed);
-    blink_growing_free(map);
-    return all;
 }
 
 // One use of all that takes memory at readers: whether none was refused. A refusal leaves the index, or the reader, as it was.
@@ -1186,7 +1202,7 @@ static bool uses_readers(blink_index *index) {
     return dumped && joined;
 }
 
-// One use of everything that takes memory, up to the first refusal: whether nothing was refused.
+// One use of everything else that takes memory, up to the first refusal: whether nothing was refused.
 static bool uses_memory(void) {
     blink_index index = {NULL}, copy = {NULL}, closed = {NULL};
     blink_table table = {NULL};
@@ -1219,7 +1235,7 @@ static bool uses_memory(void) {
         CHECK(code == BLINK_DONE || code == BLINK_NO_MEMORY);
         all = all && code == BLINK_DONE;
         if (code == BLINK_DONE) blink_index_free(closed);
-        all = all && uses_a_map(&copy) && uses_a_growing_map(&copy) && uses_readers(&copy);
+        all = all && uses_readers(&copy);
     }
     if (copy.at) blink_index_free(copy);
     blink_index_free(index);
@@ -1244,19 +1260,24 @@ int main(int argc, char **argv) {
     has_room_for_its_insertions();
     changes_end_at_once();
     refuses_at_a_map();
-    refuses_under_way();
+    holds_a_session();
+    takes_each_place();
+    refuses_under_way(true);
+    refuses_under_way(false);
+    refuses_the_other_half();
     tells_others_apart();
     shares_a_map();
     if (argc == 1) joins_at_once();
-    shares_an_index();
-    changes_a_growing_map();
-    opens_a_growing_map_with_room(false);
-    opens_a_growing_map_with_room(true);
+    opens_a_map_with_room(true);
+    opens_a_map_with_room(false);
     grows_by_threads();
+    shares_an_index();
+    needs_memory_for_a_map(true);
+    needs_memory_for_a_map(false);
     long requests = 0;
     do refused_at = requests++;
     while (!uses_memory());
-    CHECK(requests > 30);
+    CHECK(requests > 20);
     refused_at = -1;
     puts("all as expected");
     return 0;

@@ -11,9 +11,6 @@ pub mod TableKind
 pub mod PassKind
 pub mod MapKind
 pub mod SessionKind
-pub mod GrowingKind
-pub mod GrowingSessionKind
 pub mod CodesOfMaps
-pub mod CodesOfGrowing
 pub mod Codes
 pub mod CodesOfTables

@@ -5,9 +5,6 @@ use Rattle.blink_owners.specs.declared.pass_owner.PassOwner.{PassOwner}
 use Rattle.blink_owners.specs.declared.raw.RawAnswer.{RawAnswer}
 use Rattle.blink_owners.specs.declared.session_owner.SessionOwner.{SessionOwner}
 use Rattle.blink_owners.specs.Codes.{TellsWhy}
-use Rattle.blink_owners.specs.GrowCodes as grow
-use Rattle.blink_owners.specs.GrowingSessions as growing
-use Rattle.blink_owners.specs.declared.growing_session_owner.GrowingSessionOwner.{GrowingSessionOwner}
 use Rattle.blink_owners.specs.MapCodes as map
 use Rattle.blink_owners.specs.Passes.{Begins, IsBeginRefusal, IsOwn}
 use Rattle.blink_owners.specs.Sessions.{Answers, IsChangeRefusal, IsOwnSession}
@@ -26,11 +23,3 @@ pub record BeginsChange (op : Op) (old new : PassOwner) (code : ℕ) : Type 0 wh
   pub begun : code ≡ 0 → Begins op old new
   pub refused : TellsWhy table.code_of (IsBeginRefusal op old.held) code
   pub unchanged : code ≢ 0 → new ≡ old
-
--- the operation of a growing map's session has ended with the answer, or the code tells why it hasn't, and then the place of the answer is
--- as it was
-pub record ChangesGrowing (op : Op) (old new : GrowingSessionOwner) (before given : RawAnswer) (code : ℕ) : Type 0 where
-  pub its_own : growing.IsOwnSession new
-  pub answered : code ≡ 0 → growing.Answers op old new given
-  pub refused : TellsWhy grow.code_of (growing.IsChangeRefusal op old new) code
-  pub unchanged : code ≢ 0 → given ≡ before

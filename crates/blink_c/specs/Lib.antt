@@ -13,10 +13,6 @@ pub mod MapOwned
 pub mod MapLending
 pub mod SessionOwned
 pub mod SessionLending
-pub mod GrowingOwned
-pub mod GrowingLending
-pub mod GrowingSessionOwned
-pub mod GrowingSessionLending
 pub mod ReaderOwned
 pub mod ReaderLending
 -- what an export makes of a session or a pass by which an operation runs or begins

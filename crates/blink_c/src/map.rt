@@ -1,8 +1,11 @@
 //! The exports of a map.
-ghost use Rattle.std.specs.Prelude.{◌≡◌, ◌≢◌, ◌↔◌, ◌⊎◌, None, IfSome, IsSome, length};
+ghost use Rattle.std.specs.Prelude.{◌≡◌, ◌≢◌, ◌↔◌, None, IfSome, IsFalse, IsSome, length};
+ghost use Rattle.blink_grow.specs.{WhyNotInRoom, WhyNotOpened, is_fixed};
 ghost use Rattle.blink_index.specs.{map_of};
-ghost use Rattle.blink_live.specs.{IsNumberedInOrder};
-ghost use Rattle.blink_owners.specs.{CanClose, HasBadSessions, IsClosedMap, IsNewMap, IsOwnMap, IsOwnerOfSame, IsTooLargeMap, Joins, fan_in, map_in};
+ghost use Rattle.blink_owners.specs.Codes.{TellsWhy};
+ghost use Rattle.blink_owners.specs.MapCodes.{code_of};
+ghost use Rattle.blink_owners.specs.Maps.{CanClose, IsClosedMap, IsCloseFault, IsJoinFault, IsNewMap, IsOpenFault, IsOpenFixed, IsOwnMap, IsOwnerOfSame, IsRenewFault, IsRoomFault, IsShareFault, Joins, map_in, places_for};
+ghost use Rattle.blink_owners.specs.declared.map_owner.TheConstants.{PLACES};
 ghost use Rattle.blink_owners.specs.Sessions.{IsOwnSession};
 
 use crate::index_handle::IndexHandle;
@@ -11,33 +14,63 @@ use crate::map_handle::MapHandle;
 use crate::map_slot::MapSlot;
 use crate::place::Place;
 use crate::session_slot::SessionSlot;
-use blink_map::{MapError, Room};
+use blink_grow::Room;
 use blink_owners::map_owner::MapOwner;
-use blink_owners::map_state::MapState;
+use blink_owners::map_refusal::code_of;
 use blink_owners::refusal::{Code, DONE};
+use blink_owners::shared_map::MapState;
 use std::alloc::Global;
 
-/// Opens a map over the index, with such room for changes and sessions, and stores where it lies. Its number is 0, and its caller
-/// names it before a session joins it.
+/// Opens a map over the index, and stores where it lies. The map grows as it has to. Its number is 0, and its caller names it before a
+/// session joins it.
 #[unsafe(no_mangle)]
 pub extern "C" fn blink_map_open_unnamed(
+    alloc: Global,
+    index: &mut IndexHandle,
+    out: &mut MapSlot,
+    place: &mut Place,
+) -> Code
+    requires { out.old.value ≡ None }
+    ensures opened { result ≡ 0 → IsSome out.new.value × IfSome out.new.value
+        (IsNewMap (map_of index.old.value) PLACES) }
+    ensures its_own { IfSome out.new.value IsOwnMap }
+    ensures grows { IfSome out.new.value (λ map. IsFalse (is_fixed (map_in map))) }
+    ensures refused { TellsWhy code_of
+        (IsOpenFault (WhyNotOpened (length index.old.value.pages) PLACES)) result }
+    ensures unchanged { result ≢ 0 → out.new.value ≡ None }
+    ensures same { index.new.value ≡ index.old.value }
+{
+    match MapOwner::open(alloc, index.get()) {
+        Ok(map) => {
+            give_place(&map.state, place);
+            *out = MapSlot::of(map);
+            DONE
+        }
+        Err(refusal) => refusal.code(),
+    }
+}
+
+/// Opens a map over the index as `blink_map_open_unnamed` does, with this room for its first changes, which is for so many sessions. If the
+/// room is fixed, the map is never renewed, its changes are refused where it is full, and no more sessions join it.
+#[unsafe(no_mangle)]
+pub extern "C" fn blink_map_open_with_room_unnamed(
     alloc: Global,
     index: &mut IndexHandle,
     pages: u32,
     rows: u32,
     sessions: u32,
+    fixed: bool,
     out: &mut MapSlot,
     place: &mut Place,
 ) -> Code
     requires { out.old.value ≡ None }
-    ensures opened { result ≡ 0 → IsSome out.new.value × IfSome out.new.value (IsNewMap
-        index.old.value (record { pages = pages; rows = rows; sessions = sessions }) 0) }
+    ensures opened { result ≡ 0 → IsSome out.new.value × IfSome out.new.value
+        (IsNewMap (map_of index.old.value) (places_for sessions fixed)) }
     ensures its_own { IfSome out.new.value IsOwnMap }
-    ensures sessions { result ≡ 102 ↔ HasBadSessions
-        (record { pages = pages; rows = rows; sessions = sessions }) }
-    ensures too_large { result ≡ 101 ↔ IsTooLargeMap (length index.old.value.pages)
-        (record { pages = pages; rows = rows; sessions = sessions }) }
-    ensures refused { result ≢ 0 → (result ≡ 41) ⊎ (result ≡ 101) ⊎ (result ≡ 102) }
+    ensures room { IfSome out.new.value (λ map. is_fixed (map_in map) ≡ fixed) }
+    ensures refused { TellsWhy code_of
+        (IsOpenFault (WhyNotInRoom (length index.old.value.pages)
+        (record { pages = pages; rows = rows; sessions = sessions }))) result }
     ensures unchanged { result ≢ 0 → out.new.value ≡ None }
     ensures same { index.new.value ≡ index.old.value }
 {
@@ -46,15 +79,20 @@ pub extern "C" fn blink_map_open_unnamed(
         rows,
         sessions,
     };
-    match MapOwner::open(alloc, index.get(), room, 0) {
+    match MapOwner::open_with_room(alloc, index.get(), room, fixed) {
         Ok(map) => {
-            if let MapState::Open(shared) = &map.state {
-                *place = Place::of(&**shared);
-            }
+            give_place(&map.state, place);
             *out = MapSlot::of(map);
             DONE
         }
-        Err(refusal) => u32::from(refusal.code()),
+        Err(refusal) => refusal.code(),
+    }
+}
+
+// Stores where an open map lies.
+fn give_place(state: &MapState, place: &mut Place) {
+    if let MapState::Open(shared) = state {
+        *place = Place::of(&**shared);
     }
 }
 
@@ -80,7 +118,7 @@ pub extern "C" fn blink_map_share_alone(
     ensures shared { result ≡ 0 → IsSome out.new.value × IfSome out.new.value
         (IsOwnerOfSame map.old.value) }
     ensures its_own { IfSome out.new.value IsOwnMap }
-    ensures refused { result ≢ 0 → (result ≡ 41) ⊎ (result ≡ 108) }
+    ensures refused { TellsWhy code_of IsShareFault result }
     ensures unchanged { result ≢ 0 → out.new.value ≡ None }
     ensures same { map.new.value ≡ map.old.value }
 {
@@ -89,7 +127,7 @@ pub extern "C" fn blink_map_share_alone(
             *out = MapSlot::of(other);
             DONE
         }
-        Err(refusal) => u32::from(refusal.code()),
+        Err(refusal) => refusal.code(),
     }
 }
 
@@ -104,7 +142,7 @@ pub extern "C" fn blink_map_join_alone(
     requires empty { out.old.value ≡ None }
     ensures joined { result ≡ 0 → IsSome out.new.value × IfSome out.new.value
         (λ session. IsOwnSession session × Joins map.old.value session) }
-    ensures refused { result ≢ 0 → (result ≡ 41) ⊎ (result ≡ 103) }
+    ensures refused { TellsWhy code_of IsJoinFault result }
     ensures unchanged { result ≢ 0 → out.new.value ≡ None }
     ensures same { map.new.value ≡ map.old.value }
 {
@@ -113,21 +151,45 @@ pub extern "C" fn blink_map_join_alone(
             *out = SessionSlot::of(session);
             DONE
         }
-        Err(refusal) => u32::from(refusal.code()),
+        Err(refusal) => refusal.code(),
     }
 }
 
-/// Stores how many rows and page numbers the map's pool has left. Sessions may draw at any time, so the counts prove nothing.
+/// Stores how many rows and page numbers the pool of the current map has left. Sessions may draw at any time, so the counts prove nothing.
+/// It looks so many times for a session that is in its place.
 #[unsafe(no_mangle)]
-pub extern "C" fn blink_map_room_alone(map: &mut MapHandle, rows: &mut u64, pages: &mut u64)
+pub extern "C" fn blink_map_room_alone(
+    map: &mut MapHandle,
+    looks: u32,
+    rows: &mut u64,
+    pages: &mut u64,
+) -> Code
+    ensures refused { TellsWhy code_of IsRoomFault result }
+    ensures unchanged { result ≢ 0 → (rows.new ≡ rows.old) × (pages.new ≡ pages.old) }
     ensures same { map.new.value ≡ map.old.value }
 {
-    let (rows_left, pages_left) = map.get().room();
-    *rows = rows_left;
-    *pages = pages_left;
+    match map.get().room(looks) {
+        Ok(left) => {
+            *rows = left.0;
+            *pages = left.1;
+            DONE
+        }
+        Err(refusal) => refusal.code(),
+    }
 }
 
-/// Closes the map, and gives the index of its tree. The handle stays, and is still to be freed. The call is refused with `Missing` if
+/// Renews the map: its entries are packed into another one, with new room. It looks so many times for each session that is in a call. A map
+/// whose room is fixed is never renewed.
+#[unsafe(no_mangle)]
+pub extern "C" fn blink_map_renew(alloc: Global, map: &mut MapHandle, looks: u32) -> Code
+    ensures refused { TellsWhy code_of (IsRenewFault map.old.value.state) result }
+    ensures fixed { IsOpenFixed map.old.value.state → result ≡ 105 }
+    ensures same { map.new.value ≡ map.old.value }
+{
+    code_of(&map.get().renew(alloc, looks))
+}
+
+/// Closes the map, and gives the index of its entries. The handle stays, and is still to be freed. The call is refused with `Missing` if
 /// the handle of a session, or another one of the map, isn't freed; and with `Closed` exactly if the map was closed before. After every
 /// other refusal the map stays, with all its entries, and the call may be made again.
 #[unsafe(no_mangle)]
@@ -138,10 +200,8 @@ pub extern "C" fn blink_map_close(alloc: Global, map: &mut MapHandle, out: &mut 
     ensures same { IsOwnerOfSame map.old.value map.new.value }
     ensures closed { result ≡ 0 → IsSome out.new.value × IfSome out.new.value
         (λ index. IsClosedMap (map_in map.old.value) (map_of index)) }
-    ensures fan { IfSome out.new.value (λ index. index.fan ≡ fan_in map.old.value) }
-    ensures numbered { IfSome out.new.value IsNumberedInOrder }
-    ensures refused { result ≢ 0
-        → (result ≡ 41) ⊎ (result ≡ 101) ⊎ (result ≡ 106) ⊎ (result ≡ 108) }
+    ensures fan { IfSome out.new.value (λ index. index.fan ≡ (map_in map.old.value).fan) }
+    ensures refused { TellsWhy code_of IsCloseFault result }
     ensures closed_before { result ≡ 108 ↔ ¬ CanClose map.old.value.state }
     ensures stays { result ≢ 0 → CanClose map.old.value.state → CanClose map.new.value.state }
     ensures unchanged { result ≢ 0 → out.new.value ≡ None }
@@ -151,7 +211,7 @@ pub extern "C" fn blink_map_close(alloc: Global, map: &mut MapHandle, out: &mut 
             *out = IndexSlot::of(index);
             DONE
         }
-        Err(refusal) => u32::from(refusal.code()),
+        Err(refusal) => refusal.code(),
     }
 }
 

@@ -5,7 +5,7 @@ ghost use Rattle.blink_batch.specs.declared.Op.TheVariants.{Delete, DeleteExact,
 ghost use Rattle.blink_map.specs.{IsUpdate};
 ghost use Rattle.blink_owners.specs.Codes.{TellsWhy};
 ghost use Rattle.blink_owners.specs.MapCodes.{code_of};
-ghost use Rattle.blink_owners.specs.Sessions.{EndsFrom, Finds, IsAdvanceRefusal, IsNotFree, IsOwnSession, IsPutRefusal, IsTakeRefusal, IsTellRefusal, Puts, Scans, ScansBack, Takes, TellsOn, TellsStock, in_map};
+ghost use Rattle.blink_owners.specs.Sessions.{EndsFrom, Finds, IsAdvanceRefusal, IsAway, IsOwnSession, IsPutRefusal, IsTakeRefusal, IsTellRefusal, KnowsSame, Puts, Scans, ScansBack, SeesMore, Takes, TellsOn, TellsStock, in_map};
 ghost use Rattle.blink_c.specs.Changing.{ChangesMap};
 
 use crate::session_handle::SessionHandle;
@@ -16,21 +16,22 @@ use blink_owners::raw::{RawAnswer, RawScanned, RawStock, RawTaken};
 use blink_owners::refusal::Code;
 use std::alloc::Global;
 
-/// Looks any key up, as the session has seen it by the end of the call.
+/// Looks any key up, as the session has seen it by the end of the call. It looks `tries` times for the session, at least once, while the
+/// map is renewed.
 #[unsafe(no_mangle)]
 pub extern "C" fn blink_session_find(
     session: &mut SessionHandle,
     key: u64,
+    tries: u32,
     answer: &mut RawAnswer,
 ) -> Code
     requires its_own { IsOwnSession session.old.value }
     ensures its_own { IsOwnSession session.new.value }
     ensures found { result ≡ 0 → Finds key session.old.value session.new.value answer.new }
-    ensures refused { TellsWhy code_of (IsNotFree session.old.value.free) result }
-    ensures unchanged { result ≢ 0
-        → (session.new.value ≡ session.old.value) × (answer.new ≡ answer.old) }
+    ensures refused { TellsWhy code_of (IsAway session.old.value session.new.value) result }
+    ensures unchanged { result ≢ 0 → answer.new ≡ answer.old }
 {
-    code_of(&session.get().find(key, answer))
+    code_of(&session.get().find(key, tries, answer))
 }
 
 /// Gives the entries whose keys are from `lo` to `hi`, as many as there are places, and tells how far it came.
@@ -39,6 +40,7 @@ pub extern "C" fn blink_session_scan(
     session: &mut SessionHandle,
     lo: u64,
     hi: u64,
+    tries: u32,
     entries: &mut [Entry],
     scanned: &mut RawScanned,
 ) -> Code
@@ -46,11 +48,11 @@ pub extern "C" fn blink_session_scan(
     ensures its_own { IsOwnSession session.new.value }
     ensures scanned { result ≡ 0
         → Scans lo hi session.old.value session.new.value entries.old entries.new scanned.new }
-    ensures refused { TellsWhy code_of (IsNotFree session.old.value.free) result }
-    ensures unchanged { result ≢ 0 → (session.new.value ≡ session.old.value)
-        × (entries.new ≡ entries.old) × (scanned.new ≡ scanned.old) }
+    ensures refused { TellsWhy code_of (IsAway session.old.value session.new.value) result }
+    ensures unchanged { result ≢ 0
+        → (entries.new ≡ entries.old) × (scanned.new ≡ scanned.old) }
 {
-    code_of(&session.get().scan(lo, hi, entries, scanned))
+    code_of(&session.get().scan((lo, hi), tries, entries, scanned))
 }
 
 /// Gives the entries whose keys are from `lo` to `hi`, the greatest first, as many as there are places, and tells how far it
@@ -60,6 +62,7 @@ pub extern "C" fn blink_session_scan_back(
     session: &mut SessionHandle,
     lo: u64,
     hi: u64,
+    tries: u32,
     entries: &mut [Entry],
     scanned: &mut RawScanned,
 ) -> Code
@@ -67,11 +70,11 @@ pub extern "C" fn blink_session_scan_back(
     ensures its_own { IsOwnSession session.new.value }
     ensures scanned { result ≡ 0
         → ScansBack lo hi session.old.value session.new.value entries.old entries.new scanned.new }
-    ensures refused { TellsWhy code_of (IsNotFree session.old.value.free) result }
-    ensures unchanged { result ≢ 0 → (session.new.value ≡ session.old.value)
-        × (entries.new ≡ entries.old) × (scanned.new ≡ scanned.old) }
+    ensures refused { TellsWhy code_of (IsAway session.old.value session.new.value) result }
+    ensures unchanged { result ≢ 0
+        → (entries.new ≡ entries.old) × (scanned.new ≡ scanned.old) }
 {
-    code_of(&session.get().scan_back(lo, hi, entries, scanned))
+    code_of(&session.get().scan_back((lo, hi), tries, entries, scanned))
 }
 
 /// Takes a snapshot of the entries whose keys are from `lo` to `hi`, as all of them were at one time. It tries so many times, and
@@ -100,10 +103,11 @@ pub extern "C" fn blink_session_snapshot(
     )
 }
 
-/// Adds an entry. After `tries` steps in vain the call returns with the insertion under way, which goes on by
-/// `blink_session_advance`.
+/// Adds an entry. Where the map is full, the call renews it, unless its room is fixed. After `tries` steps in vain it returns with the
+/// insertion under way, which goes on by `blink_session_advance`.
 #[unsafe(no_mangle)]
 pub extern "C" fn blink_session_insert(
+    alloc: Global,
     session: &mut SessionHandle,
     key: u64,
     pointer: u64,
@@ -114,12 +118,13 @@ pub extern "C" fn blink_session_insert(
     ensures { ChangesMap (Insert key pointer)
         session.old.value session.new.value answer.old answer.new result }
 {
-    change(session, Op::Insert(key, pointer), tries, answer)
+    change(alloc, session, Op::Insert(key, pointer), tries, answer)
 }
 
 /// Removes a key. It may be under way then as an insertion.
 #[unsafe(no_mangle)]
 pub extern "C" fn blink_session_delete(
+    alloc: Global,
     session: &mut SessionHandle,
     key: u64,
     tries: u32,
@@ -129,12 +134,13 @@ pub extern "C" fn blink_session_delete(
     ensures { ChangesMap (Delete key)
         session.old.value session.new.value answer.old answer.new result }
 {
-    change(session, Op::Delete(key), tries, answer)
+    change(alloc, session, Op::Delete(key), tries, answer)
 }
 
 /// Replaces a key's pointer. It may be under way then as an insertion.
 #[unsafe(no_mangle)]
 pub extern "C" fn blink_session_replace(
+    alloc: Global,
     session: &mut SessionHandle,
     key: u64,
     pointer: u64,
@@ -145,12 +151,13 @@ pub extern "C" fn blink_session_replace(
     ensures { ChangesMap (Replace key pointer)
         session.old.value session.new.value answer.old answer.new result }
 {
-    change(session, Op::Replace(key, pointer), tries, answer)
+    change(alloc, session, Op::Replace(key, pointer), tries, answer)
 }
 
 /// Replaces a key's pointer, if it is the expected one. It may be under way then as an insertion.
 #[unsafe(no_mangle)]
 pub extern "C" fn blink_session_exchange(
+    alloc: Global,
     session: &mut SessionHandle,
     key: u64,
     expected: u64,
@@ -162,12 +169,19 @@ pub extern "C" fn blink_session_exchange(
     ensures { ChangesMap (Exchange key expected pointer)
         session.old.value session.new.value answer.old answer.new result }
 {
-    change(session, Op::Exchange(key, expected, pointer), tries, answer)
+    change(
+        alloc,
+        session,
+        Op::Exchange(key, expected, pointer),
+        tries,
+        answer,
+    )
 }
 
 /// Removes a key with its pointer, if that is the expected one. It may be under way then as an insertion.
 #[unsafe(no_mangle)]
 pub extern "C" fn blink_session_delete_exact(
+    alloc: Global,
     session: &mut SessionHandle,
     key: u64,
     expected: u64,
@@ -178,23 +192,36 @@ pub extern "C" fn blink_session_delete_exact(
     ensures { ChangesMap (DeleteExact key expected)
         session.old.value session.new.value answer.old answer.new result }
 {
-    change(session, Op::DeleteExact(key, expected), tries, answer)
+    change(
+        alloc,
+        session,
+        Op::DeleteExact(key, expected),
+        tries,
+        answer,
+    )
 }
 
 // Runs an operation that changes the map, or begins it.
-fn change(session: &mut SessionHandle, op: Op, tries: u32, answer: &mut RawAnswer) -> Code
+fn change(
+    alloc: Global,
+    session: &mut SessionHandle,
+    op: Op,
+    tries: u32,
+    answer: &mut RawAnswer,
+) -> Code
     requires its_own { IsOwnSession session.old.value }
     requires updates { IsUpdate op }
     requires fits { FitsWords op }
     ensures { ChangesMap op session.old.value session.new.value answer.old answer.new result }
 {
-    code_of(&session.get().change(op, tries, answer))
+    code_of(&session.get().change(alloc, op, tries, answer))
 }
 
-/// Maps a key to a pointer, whether the key is there or not. It may be under way then as an insertion, also where the key turned
-/// out to be there.
+/// Puts an entry: replaces the key's pointer, and inserts the entry where the key is absent. The answer is that of the replacement or of
+/// the insertion. The put may be under way then as an insertion.
 #[unsafe(no_mangle)]
 pub extern "C" fn blink_session_put(
+    alloc: Global,
     session: &mut SessionHandle,
     key: u64,
     pointer: u64,
@@ -208,12 +235,14 @@ pub extern "C" fn blink_session_put(
         (IsPutRefusal key pointer session.old.value session.new.value) result }
     ensures unchanged { result ≢ 0 → answer.new ≡ answer.old }
 {
-    code_of(&session.get().put(key, pointer, tries, answer))
+    code_of(&session.get().put(alloc, key, pointer, tries, answer))
 }
 
-/// Takes the next steps of the operation or the put that is under way.
+/// Takes the next steps of the operation or the put that is under way. A put may be refused then for lack of room or memory, and nothing is
+/// put.
 #[unsafe(no_mangle)]
 pub extern "C" fn blink_session_advance(
+    alloc: Global,
     session: &mut SessionHandle,
     tries: u32,
     answer: &mut RawAnswer,
@@ -226,45 +255,78 @@ pub extern "C" fn blink_session_advance(
         (IsAdvanceRefusal session.old.value.under_way session.old.value session.new.value) result }
     ensures unchanged { result ≢ 0 → answer.new ≡ answer.old }
 {
-    code_of(&session.get().advance(tries, answer))
+    code_of(&session.get().advance(alloc, tries, answer))
 }
 
-/// Tells session `to` what session `from` has seen. Sessions of two maps are told apart by the numbers of these.
-/// The call is refused for two maps first, then for a `from` that isn't free, and then for a `to` that isn't.
+/// Holds the session until `blink_session_let_go`. Calls on it wait for no renewal then, and the map is neither renewed nor
+/// closed, but for a change of this session that finds the map full.
 #[unsafe(no_mangle)]
-pub extern "C" fn blink_session_tell(from: &mut SessionHandle, to: &mut SessionHandle) -> Code
+pub extern "C" fn blink_session_hold(session: &mut SessionHandle, tries: u32) -> Code
+    requires its_own { IsOwnSession session.old.value }
+    ensures its_own { IsOwnSession session.new.value }
+    ensures held { result ≡ 0 → SeesMore session.old.value session.new.value }
+    ensures refused { TellsWhy code_of (IsAway session.old.value session.new.value) result }
+{
+    code_of(&session.get().hold(tries))
+}
+
+/// Lets a session go that is held. One whose operation is under way is let go when that has ended.
+#[unsafe(no_mangle)]
+pub extern "C" fn blink_session_let_go(session: &mut SessionHandle)
+    requires its_own { IsOwnSession session.old.value }
+    ensures its_own { IsOwnSession session.new.value }
+    ensures same { KnowsSame session.old.value session.new.value }
+    ensures goes_on { session.new.value.under_way ≡ session.old.value.under_way }
+{
+    session.get().let_go();
+}
+
+/// Tells session `to` what session `from` has seen. Sessions of two maps are told apart by the numbers of these. It looks `tries` times for
+/// each of the two, at least once, while the map is renewed. A session that is held is let go for the call, and held again after it, unless
+/// a renewal has begun by then.
+#[unsafe(no_mangle)]
+pub extern "C" fn blink_session_tell(
+    from: &mut SessionHandle,
+    to: &mut SessionHandle,
+    tries: u32,
+) -> Code
     requires its_own { IsOwnSession from.old.value }
     requires others_own { IsOwnSession to.old.value }
     requires numbered { from.old.value.number ≡ to.old.value.number
         → in_map from.old.value ≡ in_map to.old.value }
     ensures its_own { IsOwnSession from.new.value }
     ensures others_own { IsOwnSession to.new.value }
-    ensures told { result ≡ 0 → TellsOn from.old.value from.new.value to.old.value to.new.value }
-    ensures refused { TellsWhy code_of (IsTellRefusal from.old.value to.old.value) result }
-    ensures unchanged { result ≢ 0
-        → (from.new.value ≡ from.old.value) × (to.new.value ≡ to.old.value) }
+    ensures told { result ≡ 0
+        → TellsOn from.old.value from.new.value to.old.value to.new.value }
+    ensures refused { TellsWhy code_of
+        (IsTellRefusal from.old.value from.new.value to.old.value to.new.value) result }
 {
-    code_of(&from.get().tell(to.get()))
+    code_of(&from.get().tell(to.get(), tries))
 }
 
-/// Tells what the session has of its map's page numbers and rows.
+/// Tells what the session has of page numbers and rows in the map that it is in just now. It looks `tries` times for the session, at least
+/// once, while the map is renewed.
 #[unsafe(no_mangle)]
-pub extern "C" fn blink_session_reserve(session: &mut SessionHandle, stock: &mut RawStock) -> Code
+pub extern "C" fn blink_session_reserve(
+    session: &mut SessionHandle,
+    tries: u32,
+    stock: &mut RawStock,
+) -> Code
     requires its_own { IsOwnSession session.old.value }
     ensures its_own { IsOwnSession session.new.value }
-    ensures told { result ≡ 0 → TellsStock session.old.value stock.new }
-    ensures refused { TellsWhy code_of (IsNotFree session.old.value.free) result }
-    ensures same { session.new.value ≡ session.old.value }
+    ensures told { result ≡ 0 → TellsStock session.old.value session.new.value stock.new }
+    ensures refused { TellsWhy code_of (IsAway session.old.value session.new.value) result }
     ensures unchanged { result ≢ 0 → stock.new ≡ stock.old }
 {
-    code_of(&session.get().stock(stock))
+    code_of(&session.get().stock(tries, stock))
 }
 
-/// Frees the handle. A free session rests at its place again, which can be taken. An operation or a put under way is driven to its end
-/// before; a put whose other half lacks room is not made. If it still waits after 1,000 tries, its place is lost.
+/// Frees the handle. The session rests at its place again, which can be taken. An operation or a put under way is driven to its end before;
+/// a put that finds no room ends with nothing put. If it still waits after 1,000 tries, the session is lost, and the map can't be renewed
+/// or closed.
 #[unsafe(no_mangle)]
-pub extern "C" fn blink_session_free(session: SessionHandle)
+pub extern "C" fn blink_session_free(alloc: Global, session: SessionHandle)
     requires its_own { IsOwnSession session.value }
 {
-    Box::into_inner(session.into_box()).free(FREE_TRIES);
+    Box::into_inner(session.into_box()).free(alloc, FREE_TRIES);
 }

@@ -10,15 +10,9 @@ pub mod RunsInParts
 pub mod PassesCross
 pub mod KeysOfPasses
 pub mod MapsCross
-pub mod MapsStay
-pub mod SessionsCross
-pub mod SessionsGoOn
 pub mod SessionsStay
-pub mod WaitsGoOn
+pub mod PutsGoOn
 pub mod SnapshotsAreGiven
-pub mod AnswersOfPuts
 pub mod DealFaults
 pub mod AppliedSoFar
-pub mod GrowingStays
-pub mod GrowingCross
-pub mod GrowingEnds
+pub mod MapsEnd

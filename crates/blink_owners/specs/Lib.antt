@@ -19,26 +19,19 @@ pub use Rattle.blink_owners.specs.Reports.{HasReported, HasReportedBack, TellsTa
 pub use Rattle.blink_owners.specs.Tables.{DealsTo, IsNewTable, IsOwnTable, IsReturnRefusal, TakesBack, TellsDealFault}
 -- a pass behind a handle likewise
 pub use Rattle.blink_owners.specs.Passes.{Begins, Ends, Finds, Glances, Hands, IsAdvanceRefusal, IsBeginRefusal, IsFindRefusal, IsHandRefusal, IsOwn, IsTakeRefusal, IsTellRefusal, Scans, ScansBack, Takes, TellsHandFault, TellsOn}
--- a map behind a handle: what the calls make of it, and why they are refused
-pub use Rattle.blink_owners.specs.Maps.{HasBadSessions, IsNewMap, IsTooLargeMap, Joins}
--- a session behind a handle likewise
-pub use Rattle.blink_owners.specs.Sessions.{Answers, EndsFrom, Finds as SessionFinds, IsAdvanceRefusal as IsSessionAdvanceRefusal, IsChangeRefusal, IsOwnSession, IsPutRefusal, IsShortage, IsTakeRefusal as IsSessionTakeRefusal, IsTellRefusal as IsSessionTellRefusal, Puts, Scans as SessionScans, ScansBack as SessionScansBack, Takes as SessionTakes, TellsOn as SessionTellsOn, TellsStock}
 -- readers of an index, each behind a handle
 pub use Rattle.blink_owners.specs.Readers.{index_at, index_in}
 -- ---- for proofs above
 pub use Rattle.blink_owners.specs.Tables.{table_in}
-pub use Rattle.blink_owners.specs.Maps.{CanClose, IsClosedMap, IsOwnMap, IsOwnerOfSame, fan_in, map_in}
 -- ---- files that crates above name
 pub mod Passes
+-- a map and its sessions behind handles: what the calls make of them, and why they are refused
+pub mod Maps
 pub mod Sessions
 -- the codes of refusals
 pub mod Codes
 pub mod TableCodes
 pub mod MapCodes
-pub mod GrowCodes
--- a growing map and its sessions behind handles
-pub mod Growing
-pub mod GrowingSessions
 -- ---- files that no crate above names
 pub mod Raw
 pub mod Runs
@@ -48,5 +41,4 @@ pub mod Found
 pub mod Filled
 pub mod Reports
 pub mod Tables
-pub mod Maps
 pub mod Readers

@@ -1,11 +1,23 @@
--- The code of each refusal of a map or a session.
+-- The refusals of a map or its session, and their codes.
 use Rattle.std.specs.Prelude.{ℕ}
-use Rattle.blink_map.specs as map
+use Rattle.blink_grow.specs.declared.error.GrowError.{GrowError}
+use Rattle.blink_grow.specs.declared.error.GrowError.TheVariants as grow
 use Rattle.blink_owners.specs.declared.map_refusal.MapRefusal.{MapRefusal}
-use Rattle.blink_owners.specs.declared.map_refusal.MapRefusal.TheVariants.{Map, Full, RowsBusy, Missing, Foreign, UnderWay, Idle, Closed}
+use Rattle.blink_owners.specs.declared.map_refusal.MapRefusal.TheVariants.{OutOfMemory, TooLarge, Sessions, NoSession, Busy, Full, RowsBusy, Missing, Foreign, UnderWay, Idle, Closed}
+
+abbrev pub refusal_of : GrowError → MapRefusal
+refusal_of grow.OutOfMemory = OutOfMemory
+refusal_of grow.TooLarge = TooLarge
+refusal_of grow.Sessions = Sessions
+refusal_of grow.Busy = Busy
+refusal_of grow.Full = Full
 
 abbrev pub code_of : MapRefusal → ℕ
-code_of (Map refusal) = map.code_of refusal
+code_of OutOfMemory = 41
+code_of TooLarge = 101
+code_of Sessions = 102
+code_of NoSession = 103
+code_of Busy = 109
 code_of Full = 105
 code_of RowsBusy = 107
 code_of Missing = 106

@@ -1,40 +1,29 @@
 -- A map behind a handle: what the calls make of it, and why they are refused.
-use Rattle.std.specs.Prelude.{◌≡◌, ◌⊎◌, ◌<◌, ◌≤◌, ℕ, List, [], Some, ⊤}
+use Rattle.std.specs.Prelude.{◌≡◌, ◌⊎◌, ℕ, Bool, List, All, IsTrue, Some, ⊤, if◌then◌else◌}
 use Rattle.std.specs.Arc.{arc_value}
-use Rattle.blink_map.specs.declared.error.MapError.{MapError}
-use Rattle.blink_map.specs.declared.error.MapError.TheVariants as map
-use Rattle.blink_map.specs.declared.map.Map.{Map}
-use Rattle.blink_map.specs.declared.map.Room.{Room}
-use Rattle.blink_map.specs.declared.map.Session.{Session}
-use Rattle.blink_map.specs.declared.settled.Settled.{Settled}
-use Rattle.blink_map.specs.{IsClosedWith, IsOpenedWith, IsSessionOf, IsSettledWith, IsTooLarge}
 use Rattle.blink_batch.specs.declared.Entry.{Entry}
-use Rattle.blink_store.specs.{PlainStore}
-use Rattle.blink_owners.specs.declared.map_owner.MapOwner.{MapOwner}
+use Rattle.blink_grow.specs.declared.error.GrowError.{GrowError}
+use Rattle.blink_grow.specs.declared.error.GrowError.TheVariants as grow
+use Rattle.blink_grow.specs.declared.growing.GrowingMap.{GrowingMap}
+use Rattle.blink_grow.specs.declared.growing.Session.{Session}
+use Rattle.blink_grow.specs.{IsClosedWith, IsSessionOf, is_fixed, opening_of, places_of}
 use Rattle.blink_owners.specs.declared.map_refusal.MapRefusal.{MapRefusal}
 use Rattle.blink_owners.specs.declared.map_refusal.MapRefusal.TheVariants as refused
-use Rattle.blink_owners.specs.declared.map_state.MapState.{MapState}
-use Rattle.blink_owners.specs.declared.map_state.MapState.TheVariants as state
-use Rattle.blink_owners.specs.declared.map_state.MapState.TheVariants.{Open, Closed}
+use Rattle.blink_owners.specs.declared.map_owner.MapOwner.{MapOwner}
+use Rattle.blink_owners.specs.declared.map_owner.TheConstants.{PLACES}
 use Rattle.blink_owners.specs.declared.session_owner.SessionOwner.{SessionOwner}
+use Rattle.blink_owners.specs.declared.shared_map.MapState.{MapState}
+use Rattle.blink_owners.specs.declared.shared_map.MapState.TheVariants.{Open, Unclosed, Closed}
 use Rattle.blink_owners.specs.Sessions.{in_map}
 
 -- the map
-abbrev pub map_in : MapOwner → Map
+abbrev pub map_in : MapOwner → GrowingMap
 map_in owner = owner.map.value
 
--- the fan of its tree
-abbrev pub fan_in : MapOwner → ℕ
-fan_in owner = (map_in owner).live.fan
-
--- the map is settled with some of its sessions
-abbrev pub IsSettledOf : Map → Settled → Type 0
-IsSettledOf map settled = (sessions : List Session) × IsSettledWith map sessions [] settled
-
--- what is held is this map: it is open, or settled; or nothing is left of it
-abbrev pub IsStateOf : Map → MapState → Type 0
+-- what is held is this map: it is open, or a close of it was refused; or nothing is left of it
+abbrev pub IsStateOf : GrowingMap → MapState → Type 0
 IsStateOf map (Open shared) = (arc_value shared).map ≡ map
-IsStateOf map (state.Settled settled) = IsSettledOf map settled
+IsStateOf map (Unclosed unclosed) = (unclosed.map ≡ map) × All (IsSessionOf map) unclosed.sessions.items
 IsStateOf map Closed = ⊤
 
 -- the map is there
@@ -48,31 +37,41 @@ IsOwnMap owner = IsStateOf (map_in owner) owner.state
 
 -- ---- opening
 
--- a map that was opened over this tree, with such room
-pub record IsNewMap (store : PlainStore) (room : Room) (number : ℕ) (owner : MapOwner) : Type 0 where
-  pub opened : IsOpenedWith store room (map_in owner)
-  pub same_number : owner.number ≡ number
+-- a map that was opened with these entries, and has so many places for sessions. It isn't named yet
+pub record IsNewMap (entries : List Entry) (places : ℕ) (owner : MapOwner) : Type 0 where
+  pub opened : opening_of (map_in owner) ≡ entries
+  pub its_places : places_of (map_in owner) ≡ places
+  pub unnamed : owner.number ≡ 0
 
--- there are to be no sessions, or more than 256
-abbrev pub HasBadSessions : Room → Type 0
-HasBadSessions room = (room.sessions ≡ 0) ⊎ (256 < room.sessions)
+-- how many places a map has that is told of so many sessions: as many, if its room is fixed
+abbrev pub places_for : ℕ → Bool → ℕ
+places_for sessions fixed = if fixed then sessions else PLACES
 
--- there aren't so many page numbers, and the sessions aren't refused first
-abbrev pub IsTooLargeMap : ℕ → Room → Type 0
-IsTooLargeMap count room = (1 ≤ room.sessions) × (room.sessions ≤ 256) × IsTooLarge count room
+-- why a map isn't opened, where this says why `blink_grow` doesn't open one
+abbrev pub IsOpenFault : (GrowError → Type 0) → MapRefusal → Type 0
+IsOpenFault why refusal = (refusal ≡ refused.OutOfMemory) ⊎ ((refusal ≡ refused.TooLarge) × why grow.TooLarge) ⊎ ((refusal ≡ refused.Sessions) × why grow.Sessions)
 
-abbrev pub IsOpenFault : MapError → Type 0
-IsOpenFault refusal = (refusal ≡ map.OutOfMemory) ⊎ (refusal ≡ map.TooLarge) ⊎ (refusal ≡ map.Sessions)
+-- the refusal that tells of this one
+abbrev pub open_fault_of : GrowError → MapRefusal
+open_fault_of grow.Sessions = refused.Sessions
+open_fault_of grow.TooLarge = refused.TooLarge
+open_fault_of refusal = refused.OutOfMemory
 
 -- ---- one more handle
 
 -- the other handle is of the same map
 pub record IsOwnerOfSame (owner other : MapOwner) : Type 0 where
-  pub one_map : map_in other ≡ map_in owner
-  pub one_number : other.number ≡ owner.number
+  pub same_map : map_in other ≡ map_in owner
+  pub same_number : other.number ≡ owner.number
 
 abbrev pub IsShareFault : MapRefusal → Type 0
-IsShareFault refusal = (refusal ≡ refused.Map map.OutOfMemory) ⊎ (refusal ≡ refused.Closed)
+IsShareFault refusal = (refusal ≡ refused.OutOfMemory) ⊎ (refusal ≡ refused.Closed)
+
+-- ---- the room that is left
+
+-- why it isn't told: the map was renewed at each look, or a close of it has begun
+abbrev pub IsRoomFault : MapRefusal → Type 0
+IsRoomFault refusal = (refusal ≡ refused.Busy) ⊎ (refusal ≡ refused.Closed)
 
 -- ---- joining
 
@@ -84,20 +83,30 @@ pub record Joins (owner : MapOwner) (given : SessionOwner) : Type 0 where
   pub one_map : in_map given ≡ map_in owner
   pub one_number : given.number ≡ owner.number
 
-abbrev pub IsJoinFault : MapError → Type 0
-IsJoinFault refusal = (refusal ≡ map.OutOfMemory) ⊎ (refusal ≡ map.NoPlace)
+abbrev pub IsJoinFault : MapRefusal → Type 0
+IsJoinFault refusal = (refusal ≡ refused.OutOfMemory) ⊎ (refusal ≡ refused.NoSession)
 
--- ---- closing
+-- ---- renewing and closing
+
+-- the map is open, and its room is fixed
+abbrev pub IsOpenFixed : MapState → Type 0
+IsOpenFixed (Open shared) = IsTrue (is_fixed (arc_value shared).map)
+IsOpenFixed held = ⊥
+
+-- why a map isn't renewed: it is full only where its room is fixed
+abbrev pub IsRenewFault : MapState → MapRefusal → Type 0
+IsRenewFault held refusal =
+    (refusal ≡ refused.OutOfMemory) ⊎ (refusal ≡ refused.TooLarge) ⊎ (refusal ≡ refused.Busy) ⊎ (refusal ≡ refused.Closed) ⊎ ((refusal ≡ refused.Full) × IsOpenFixed held)
 
 -- the entries are the map's opening ones after one list of changes, which goes on from all that some sessions of the map had seen,
 -- and has exactly the changes that were made at their places
-abbrev pub IsClosedMap : Map → List Entry → Type 0
-IsClosedMap map entries = (sessions : List Session) × IsClosedWith map sessions [] entries
+abbrev pub IsClosedMap : GrowingMap → List Entry → Type 0
+IsClosedMap map entries = (sessions : List Session) × IsClosedWith map sessions entries
 
 -- why a map that nobody else shares isn't closed
 abbrev pub IsEndFault : MapRefusal → Type 0
-IsEndFault refusal = (refusal ≡ refused.Map map.OutOfMemory) ⊎ (refusal ≡ refused.Map map.TooLarge)
+IsEndFault refusal = (refusal ≡ refused.OutOfMemory) ⊎ (refusal ≡ refused.TooLarge) ⊎ (refusal ≡ refused.Busy)
 
 abbrev pub IsCloseFault : MapRefusal → Type 0
 IsCloseFault refusal =
-    (refusal ≡ refused.Map map.OutOfMemory) ⊎ (refusal ≡ refused.Map map.TooLarge) ⊎ (refusal ≡ refused.Missing) ⊎ (refusal ≡ refused.Closed)
+    (refusal ≡ refused.OutOfMemory) ⊎ (refusal ≡ refused.TooLarge) ⊎ (refusal ≡ refused.Busy) ⊎ (refusal ≡ refused.Missing) ⊎ (refusal ≡ refused.Closed)

@@ -4,20 +4,15 @@
 
 pub mod apply;
 pub mod batch;
-pub mod grow_refusal;
-pub mod growing_owner;
-pub mod growing_session_owner;
 pub mod make;
 pub mod map_owner;
 pub mod map_refusal;
-pub mod map_state;
 pub mod pass_owner;
 pub mod raw;
 pub mod reader_owner;
 pub mod reads;
 pub mod refusal;
 pub mod session_owner;
-pub mod shared_growing;
 pub mod shared_map;
 pub mod table_owner;
 pub mod table_refusal;

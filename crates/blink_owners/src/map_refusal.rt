@@ -1,23 +1,31 @@
-//! The refusals of the exports of maps and sessions.
+//! The refusals of the exports of maps and of their sessions.
 ghost use Rattle.std.specs.Prelude.{◌≡◌};
 ghost use Rattle.blink_owners.specs.Codes.{code_of_outcome};
-ghost use Rattle.blink_owners.specs.MapCodes.{code_of};
+ghost use Rattle.blink_owners.specs.MapCodes.{code_of, refusal_of};
 
 use crate::refusal::{Code, DONE};
-use blink_map::MapError;
+use blink_grow::GrowError;
 
-/// Why a call on a map or a session is refused.
+/// Why a call on a map or its session is refused.
 #[derive(Clone, Copy, Debug, PartialEq, Eq)]
 pub enum MapRefusal {
-    /// A map can't be opened, joined or closed.
-    Map(MapError),
-    /// The session has too few rows or page numbers in all, and the map's pool too.
+    /// Memory was refused.
+    OutOfMemory,
+    /// The entries leave too few of the 1,048,575 page numbers.
+    TooLarge,
+    /// A map has 1 to 256 sessions.
+    Sessions,
+    /// No session rests at any place.
+    NoSession,
+    /// The map is being renewed; or it can't be, since a session is held or in a call.
+    Busy,
+    /// The map's room is fixed, and a change found too little of it left, or the map was to be renewed.
     Full,
     /// The session has enough rows in all, but some are on their way back.
     RowsBusy,
-    /// The handle of a session isn't freed.
+    /// The handle of a session, or another one of the map, isn't freed.
     Missing,
-    /// The session is of another map.
+    /// The sessions are of two maps.
     Foreign,
     /// The session has an operation under way.
     UnderWay,
@@ -28,12 +36,29 @@ pub enum MapRefusal {
 }
 
 impl MapRefusal {
-    /// The refusal's code: that of the call which refuses so, or one of this crate's own.
+    /// The refusal of a call of `blink_grow`.
+    pub fn of(refusal: GrowError) -> MapRefusal
+        ensures { result ≡ refusal_of refusal }
+    {
+        match refusal {
+            GrowError::OutOfMemory => MapRefusal::OutOfMemory,
+            GrowError::TooLarge => MapRefusal::TooLarge,
+            GrowError::Sessions => MapRefusal::Sessions,
+            GrowError::Busy => MapRefusal::Busy,
+            GrowError::Full => MapRefusal::Full,
+        }
+    }
+
+    /// The refusal's code.
     pub fn code(&self) -> Code
         ensures { result ≡ code_of self.now }
     {
         match self {
-            MapRefusal::Map(refusal) => u32::from(refusal.code()),
+            MapRefusal::OutOfMemory => 41,
+            MapRefusal::TooLarge => 101,
+            MapRefusal::Sessions => 102,
+            MapRefusal::NoSession => 103,
+            MapRefusal::Busy => 109,
             MapRefusal::Full => 105,
             MapRefusal::RowsBusy => 107,
             MapRefusal::Missing => 106,

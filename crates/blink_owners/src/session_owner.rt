@@ -1,104 +1,141 @@
 //! What the box of a session's handle holds: an owner of the map, and the session or its operation.
-ghost use Rattle.std.specs.Prelude.{◌≡◌, IfErr, IfOk, OnErr, OnOk};
+ghost use Rattle.std.specs.Prelude.{◌≡◌, IfErr, IfOk, IsSome, None, OnErr, OnOk, Some};
+ghost use mathlib.Core.List.{IsPrefix};
 ghost use Rattle.blink_batch.specs.{FitsWords};
-ghost use Rattle.blink_machine.specs.{IsUpdate};
-ghost use Rattle.blink_map.specs.{HasTried, IsAnswered, IsPendingOf, IsSessionOf, op_of, session_of};
-ghost use Rattle.blink_map.specs.declared.map.Session.{Session};
-ghost use Rattle.blink_owners.specs.Sessions.{Answers, EndsFrom, Finds, HasAnswered, HasPut, IsAdvanceRefusal, IsChangeRefusal, IsEmpty, IsNotFree, IsNotPut, IsOfPut, IsOwnSession, IsPutRefusal, IsShortage, IsTakeRefusal, IsTellRefusal, Puts, Scans, ScansBack, StaysBusy, Takes, TellsOn, TellsStock, in_map};
+ghost use Rattle.blink_grow.specs.{IsHeldOf, IsPendingOf, IsRefusalOf, IsUpdate};
+ghost use Rattle.blink_owners.specs.Sessions.{Answers, EndsFrom, Finds, HasAnswered, HasPut, HasStepped, IsAdvanceRefusal, IsAtHand, IsAway, IsChangeRefusal, IsEmpty, IsGripped, IsNotMade, IsNotPut, IsOfPut, IsOwnSession, IsPutRefusal, IsRested, IsStepRefusal, IsTakeRefusal, IsTakenOut, IsTellRefusal, KnowsSame, Puts, SeesMore, Scans, ScansBack, Takes, TellsOn, TellsStock, in_map, is_putting, known_in, place_in, put_in, tells_put};
 
 use crate::map_refusal::MapRefusal;
-use crate::raw::{RawAnswer, RawScanned, RawStock, RawTaken};
+use crate::raw::{ABSENT, INSERTED, REMOVED, REPLACED, RawAnswer, RawScanned, RawStock, RawTaken};
 use crate::shared_map::SharedMap;
-use blink_batch::{Answer, Entry, Op};
-use blink_map::{MapError, Pending, Session, Stopped};
+use blink_batch::{Entry, Op};
+use blink_grow::{GrowError, Held, PendingHeld, RENEWALS, Session, StoppedHeld};
 use std::alloc::Global;
 use std::sync::Arc;
 
-/// An operation under way, which may be that of a put.
+/// How many operations a put makes in one call at most. Two are enough, unless other sessions insert and remove its key meanwhile.
+const PUT_OPERATIONS: u32 = 16;
+
+/// An operation of a session that is under way. It may be one of a put.
 #[derive(Drop)]
-pub enum UnderWay {
-    Busy(Pending),
-    /// With the key and the pointer that are to be put.
-    Putting(Pending, u64, u64),
+pub struct UnderWay {
+    /// The operation, with its session.
+    pub pending: PendingHeld,
+    /// The key and the pointer that are to be put, if the operation is one of a put.
+    pub put: Option<(u64, u64)>,
 }
 
-/// A session with an owner of its map, so that its thread needs nothing else. Between calls it has the session or its operation. They
-/// have a field each, so that a call moves no more than it works on: an operation is more than twice as large as a session.
+/// A session with an owner of its map, so that its thread needs nothing else. Between calls it has one of three: the free session, the
+/// held session, or its operation. They have a field each, so that a call moves no more than it works on: a held session is several times
+/// as large as a free one, and an operation is larger still.
 #[derive(Drop)]
 pub struct SessionOwner {
     /// The map, with the places of its sessions.
     pub shared: Arc<SharedMap>,
     /// The map's number, as it was when the session joined.
     pub number: u64,
-    /// The session, unless an operation of it is under way.
+    /// Whether the session stays held between calls.
+    pub keeps: bool,
+    /// The session, unless it is held, or an operation of it is under way.
     pub free: Option<Session>,
+    /// The session that is held.
+    pub held: Option<Held>,
     /// The session's operation that is under way.
     pub under_way: Option<UnderWay>,
 }
 
 impl SessionOwner {
     /// Looks any key up.
-    pub fn find(&mut self, key: u64, answer: &mut RawAnswer) -> Result<(), MapRefusal>
+    pub fn find(&mut self, key: u64, tries: u32, answer: &mut RawAnswer) -> Result<(), MapRefusal>
         requires its_own { IsOwnSession self.old }
         ensures its_own { IsOwnSession self.new }
         ensures found { OnOk result (Finds key self.old self.new answer.new) }
-        ensures refused { IfErr result (IsNotFree self.old.free) }
-        ensures unchanged { OnErr result ((self.new ≡ self.old) × (answer.new ≡ answer.old)) }
+        ensures refused { IfErr result (IsAway self.old self.new) }
+        ensures unchanged { OnErr result (answer.new ≡ answer.old) }
     {
-        let Some(session) = &mut self.free else {
-            return Err(MapRefusal::UnderWay);
-        };
-        let shown = self.shared.map.find(session, key);
-        *answer = RawAnswer::shown(shown);
-        Ok(())
+        let map = &self.shared.map;
+        match (&mut self.free, &mut self.held) {
+            (Some(session), _) => {
+                let Ok(shown) = map.try_find(session, key, tries) else {
+                    return Err(MapRefusal::Busy);
+                };
+                *answer = RawAnswer::shown(shown);
+                Ok(())
+            }
+            (None, Some(held)) => {
+                *answer = RawAnswer::shown(map.find_held(held, key));
+                Ok(())
+            }
+            (None, None) => Err(MapRefusal::UnderWay),
+        }
     }
 
     /// Scans a range of keys.
     pub fn scan(
         &mut self,
-        lo: u64,
-        hi: u64,
+        range: (u64, u64),
+        tries: u32,
         entries: &mut [Entry],
         scanned: &mut RawScanned,
     ) -> Result<(), MapRefusal>
         requires its_own { IsOwnSession self.old }
         ensures its_own { IsOwnSession self.new }
         ensures scanned { OnOk result
-            (Scans lo hi self.old self.new entries.old entries.new scanned.new) }
-        ensures refused { IfErr result (IsNotFree self.old.free) }
+            (Scans range.0 range.1 self.old self.new entries.old entries.new scanned.new) }
+        ensures refused { IfErr result (IsAway self.old self.new) }
         ensures unchanged { OnErr result
-            ((self.new ≡ self.old) × (entries.new ≡ entries.old) × (scanned.new ≡ scanned.old)) }
+            ((entries.new ≡ entries.old) × (scanned.new ≡ scanned.old)) }
     {
-        let Some(session) = &mut self.free else {
-            return Err(MapRefusal::UnderWay);
-        };
-        let came = self.shared.map.scan(session, lo, hi, entries);
-        *scanned = RawScanned::of(came);
-        Ok(())
+        let map = &self.shared.map;
+        match (&mut self.free, &mut self.held) {
+            (Some(session), _) => {
+                let Ok(came) = map.try_scan(session, range, tries, entries) else {
+                    return Err(MapRefusal::Busy);
+                };
+                *scanned = RawScanned::of(came);
+                Ok(())
+            }
+            (None, Some(held)) => {
+                let came = map.scan_held(held, range.0, range.1, entries);
+                *scanned = RawScanned::of(came);
+                Ok(())
+            }
+            (None, None) => Err(MapRefusal::UnderWay),
+        }
     }
 
     /// Scans a range of keys backwards.
     pub fn scan_back(
         &mut self,
-        lo: u64,
-        hi: u64,
+        range: (u64, u64),
+        tries: u32,
         entries: &mut [Entry],
         scanned: &mut RawScanned,
     ) -> Result<(), MapRefusal>
         requires its_own { IsOwnSession self.old }
         ensures its_own { IsOwnSession self.new }
         ensures scanned { OnOk result
-            (ScansBack lo hi self.old self.new entries.old entries.new scanned.new) }
-        ensures refused { IfErr result (IsNotFree self.old.free) }
+            (ScansBack range.0 range.1 self.old self.new entries.old entries.new scanned.new) }
+        ensures refused { IfErr result (IsAway self.old self.new) }
         ensures unchanged { OnErr result
-            ((self.new ≡ self.old) × (entries.new ≡ entries.old) × (scanned.new ≡ scanned.old)) }
+            ((entries.new ≡ entries.old) × (scanned.new ≡ scanned.old)) }
     {
-        let Some(session) = &mut self.free else {
-            return Err(MapRefusal::UnderWay);
-        };
-        let came = self.shared.map.scan_back(session, lo, hi, entries);
-        *scanned = RawScanned::of(came);
-        Ok(())
+        let map = &self.shared.map;
+        match (&mut self.free, &mut self.held) {
+            (Some(session), _) => {
+                let Ok(came) = map.try_scan_back(session, range, tries, entries) else {
+                    return Err(MapRefusal::Busy);
+                };
+                *scanned = RawScanned::of(came);
+                Ok(())
+            }
+            (None, Some(held)) => {
+                let came = map.scan_back_held(held, range.0, range.1, entries);
+                *scanned = RawScanned::of(came);
+                Ok(())
+            }
+            (None, None) => Err(MapRefusal::UnderWay),
+        }
     }
 
     /// Takes a snapshot of a range of keys.
@@ -118,58 +155,36 @@ impl SessionOwner {
         ensures unchanged { OnErr result
             ((entries.new ≡ entries.old) × (taken.new ≡ taken.old)) }
     {
-        let Some(session) = &mut self.free else {
-            return Err(MapRefusal::UnderWay);
-        };
-        let (lo, hi) = range;
-        match self.shared.map.snapshot(alloc, session, lo, hi, tries) {
-            Ok(found) => {
-                *taken = RawTaken::of(&found, entries);
-                Ok(())
-            }
-            Err(_) => Err(MapRefusal::Map(MapError::OutOfMemory)),
+        let map = &self.shared.map;
+        match (&mut self.free, &mut self.held) {
+            (Some(session), _) => match map.try_snapshot(alloc, session, range, tries) {
+                Ok(found) => {
+                    *taken = RawTaken::of(&found, entries);
+                    Ok(())
+                }
+                Err(refusal) => Err(MapRefusal::of(refusal)),
+            },
+            (None, Some(held)) => match map.snapshot_held(alloc, held, range.0, range.1, tries) {
+                Ok(found) => {
+                    *taken = RawTaken::of(&found, entries);
+                    Ok(())
+                }
+                Err(_) => Err(MapRefusal::OutOfMemory),
+            },
+            (None, None) => Err(MapRefusal::UnderWay),
         }
     }
 
-    /// Tells the other session what this one has seen.
-    pub fn tell(&mut self, to: &mut SessionOwner) -> Result<(), MapRefusal>
-        requires its_own { IsOwnSession self.old }
-        requires others_own { IsOwnSession to.old }
-        requires numbered { self.old.number ≡ to.old.number → in_map self.old ≡ in_map to.old }
-        ensures its_own { IsOwnSession self.new }
-        ensures others_own { IsOwnSession to.new }
-        ensures told { OnOk result (TellsOn self.old self.new to.old to.new) }
-        ensures refused { IfErr result (IsTellRefusal self.old to.old) }
-        ensures unchanged { OnErr result ((self.new ≡ self.old) × (to.new ≡ to.old)) }
-    {
-        if self.number != to.number {
-            return Err(MapRefusal::Foreign);
-        }
-        let Some(from) = &mut self.free else {
-            return Err(MapRefusal::UnderWay);
-        };
-        let Some(session) = &mut to.free else {
-            return Err(MapRefusal::UnderWay);
-        };
-        self.shared.map.tell(from, session);
-        Ok(())
-    }
-
-    /// Tells what the session has of page numbers and rows.
-    pub fn stock(&self, stock: &mut RawStock) -> Result<(), MapRefusal>
-        ensures told { OnOk result (TellsStock self.now stock.new) }
-        ensures refused { IfErr result (IsNotFree self.now.free) }
-        ensures unchanged { OnErr result (stock.new ≡ stock.old) }
-    {
-        let Some(session) = &self.free else {
-            return Err(MapRefusal::UnderWay);
-        };
-        *stock = RawStock::of(self.shared.map.stock(session));
-        Ok(())
-    }
-
-    /// Begins an operation that changes the map, and takes its steps (`Map::start`).
-    pub fn change(&mut self, op: Op, tries: u32, answer: &mut RawAnswer) -> Result<(), MapRefusal>
+    /// Begins an operation that changes the map, and takes its steps (`GrowingMap::start` of `blink_grow`). Where the map is full, the
+    /// call renews it, and begins again, unless its room is fixed. Where a removal has left many empty leaves, it renews the map too, unless
+    /// it can't for now.
+    pub fn change(
+        &mut self,
+        alloc: Global,
+        op: Op,
+        tries: u32,
+        answer: &mut RawAnswer,
+    ) -> Result<(), MapRefusal>
         requires its_own { IsOwnSession self.old }
         requires updates { IsUpdate op }
         requires fits { FitsWords op }
@@ -178,31 +193,116 @@ impl SessionOwner {
         ensures refused { IfErr result (IsChangeRefusal op self.old self.new) }
         ensures unchanged { OnErr result (answer.new ≡ answer.old) }
     {
-        let Some(session) = self.free.take() else {
+        if self.under_way.is_some() {
             return Err(MapRefusal::UnderWay);
+        }
+        self.change_at_hand(alloc, op, tries, answer)
+    }
+
+    // The same, by a session that is at hand.
+    #[tactic(auto, using(crate::proofs::SessionsStay::renewals))]
+    fn change_at_hand(
+        &mut self,
+        alloc: Global,
+        op: Op,
+        tries: u32,
+        answer: &mut RawAnswer,
+    ) -> Result<(), MapRefusal>
+        requires its_own { IsOwnSession self.old }
+        requires at_hand { IsAtHand self.old }
+        requires updates { IsUpdate op }
+        requires fits { FitsWords op }
+        ensures its_own { IsOwnSession self.new }
+        ensures answered { OnOk result (Answers op self.old self.new answer.new) }
+        ensures refused { IfErr result (IsChangeRefusal op self.old self.new) }
+        ensures unchanged { OnErr result (answer.new ≡ answer.old) }
+    {
+        for _ in 0..RENEWALS {
+            match self.try_change(op, tries, answer) {
+                Ok(()) => {
+                    self.renew_if_worn(alloc, answer.kind, tries);
+                    return Ok(());
+                }
+                Err(NotMade::Refused(refusal)) => return Err(refusal),
+                Err(NotMade::Full(number)) => {
+                    if let Err(refusal) = self.renew_full(alloc, number, tries) {
+                        return Err(MapRefusal::of(refusal));
+                    }
+                }
+            }
+        }
+        Err(MapRefusal::Busy)
+    }
+
+    // Renews the map of this number, which was found full, by this session: no search of another one waits for the copy.
+    fn renew_full(&self, alloc: Global, number: u64, looks: u32) -> Result<(), GrowError>
+        requires its_own { IsOwnSession self.now }
+        ensures refused { IfErr result (IsRefusalOf (in_map self.now)) }
+    {
+        let map = &self.shared.map;
+        match &self.free {
+            Some(session) => map.try_renew_by(alloc, session, Some(number), looks),
+            None => map.try_renew(alloc, Some(number), looks),
+        }
+    }
+
+    // Renews the map after a removal, if many of its leaves are empty, unless this session stays held.
+    fn renew_if_worn(&self, alloc: Global, kind: u64, looks: u32)
+        requires its_own { IsOwnSession self.now }
+    {
+        if let Some(session) = &self.free {
+            if kind == REMOVED {
+                self.shared.map.renew_if_worn_by(alloc, session, looks);
+            }
+        }
+    }
+
+    // Begins an operation in the current map, and takes its steps. Where the session lacks room for it there, it is free then.
+    fn try_change(&mut self, op: Op, tries: u32, answer: &mut RawAnswer) -> Result<(), NotMade>
+        requires its_own { IsOwnSession self.old }
+        requires updates { IsUpdate op }
+        requires fits { FitsWords op }
+        ensures its_own { IsOwnSession self.new }
+        ensures answered { OnOk result (Answers op self.old self.new answer.new) }
+        ensures refused { IfErr result (IsNotMade op self.old self.new) }
+        ensures unchanged { OnErr result (answer.new ≡ answer.old) }
+    {
+        let held = match self.grip(tries) {
+            Ok(held) => held,
+            Err(refusal) => return Err(NotMade::Refused(refusal)),
         };
-        match self.shared.map.start(session, op, tries) {
-            Ok((session, given)) => {
-                self.free = Some(session);
+        match self.shared.map.start(held, op, tries) {
+            Ok((held, given)) => {
+                self.rest(held);
                 *answer = RawAnswer::of(given);
                 Ok(())
             }
-            Err(Stopped::Waits(pending)) => {
-                self.under_way = Some(UnderWay::Busy(pending));
-                Err(MapRefusal::UnderWay)
+            Err(StoppedHeld::Waits(pending)) => {
+                self.under_way = Some(UnderWay { pending, put: None });
+                Err(NotMade::Refused(MapRefusal::UnderWay))
             }
-            Err(Stopped::Full(session)) => {
-                let refusal = shortage(&session, op);
-                self.free = Some(session);
+            Err(StoppedHeld::Full(held)) => {
+                let refusal = if held.lacks_room_in_all(op) {
+                    NotMade::Full(held.number())
+                } else {
+                    NotMade::Refused(MapRefusal::RowsBusy)
+                };
+                self.free = Some(self.shared.map.release(held));
                 Err(refusal)
             }
         }
     }
 
-    /// Puts an entry, or begins to: it replaces, and where the key is absent it inserts. Each of the two ends at once where it meets no
-    /// other session.
+    /// Puts an entry: it replaces the pointer of the key, and where the key is absent it inserts the entry. Where another session inserts
+    /// or removes the key between the two, it replaces or inserts again. It makes one change. Each of its operations takes its steps, and
+    /// renews the map, as one by `change` does.
+    ///
+    /// The call is refused with `UnderWay`, if an operation of the session is under way, and then nothing changes; or if an operation of
+    /// the put waits, and then the put goes on by `advance`. It is refused as `change` is for lack of room or memory, and with `Busy`, if
+    /// other sessions inserted and removed the key again and again. Then nothing is put, though the session may have seen more.
     pub fn put(
         &mut self,
+        alloc: Global,
         key: u64,
         pointer: u64,
         tries: u32,
@@ -214,250 +314,361 @@ impl SessionOwner {
         ensures refused { IfErr result (IsPutRefusal key pointer self.old self.new) }
         ensures unchanged { OnErr result (answer.new ≡ answer.old) }
     {
-        let Some(session) = self.free.take() else {
+        if self.under_way.is_some() {
             return Err(MapRefusal::UnderWay);
-        };
-        self.put_from(session, key, pointer, tries, answer)
-    }
-
-    /// Takes the next steps of the operation or the put that is under way.
-    pub fn advance(&mut self, tries: u32, answer: &mut RawAnswer) -> Result<(), MapRefusal>
-        requires its_own { IsOwnSession self.old }
-        ensures its_own { IsOwnSession self.new }
-        ensures ended { OnOk result (EndsFrom self.old.under_way self.old self.new answer.new) }
-        ensures refused { IfErr result (IsAdvanceRefusal self.old.under_way self.old self.new) }
-        ensures unchanged { OnErr result (answer.new ≡ answer.old) }
-    {
-        match self.under_way.take() {
-            Some(UnderWay::Busy(pending)) => self.go_on(pending, tries, answer),
-            Some(UnderWay::Putting(pending, key, pointer)) => {
-                self.put_on(pending, key, pointer, tries, answer)
-            }
-            None => Err(MapRefusal::Idle),
         }
+        let replace = Op::Replace(key, pointer);
+        self.put_from(alloc, replace, (key, pointer), tries, answer)
     }
 
-    /// Drives the operation or the put that is under way towards its end: as `advance` with one try, and so many times more as long as
-    /// it goes on. Of a put it drives both halves.
-    pub fn finish(&mut self, tries: u32, answer: &mut RawAnswer) -> Result<(), MapRefusal>
-        requires its_own { IsOwnSession self.old }
-        ensures its_own { IsOwnSession self.new }
-        ensures ended { OnOk result (EndsFrom self.old.under_way self.old self.new answer.new) }
-        ensures refused { IfErr result (IsAdvanceRefusal self.old.under_way self.old self.new) }
-        ensures unchanged { OnErr result (answer.new ≡ answer.old) }
-    {
-        for _ in 0..tries {
-            match self.advance(1, answer) {
-                Err(MapRefusal::UnderWay) => {}
-                outcome => return outcome,
-            }
-        }
-        self.advance(1, answer)
-    }
-
-    /// Frees the owner. A free session rests at its place again. An operation or a put under way goes on before, as by `finish`: it is
-    /// made, or a put comes to a half that lacks room, and then nothing is put. If it still waits then, its place is lost, and the map
-    /// can't be closed.
-    pub fn free(self, tries: u32)
-        requires its_own { IsOwnSession self }
-    {
-        let mut owner = self;
-        let mut answer = RawAnswer::shown(None);
-        let _outcome = owner.finish(tries, &mut answer);
-        if let Some(session) = owner.free.take() {
-            owner.shared.places.leave(session);
-        }
-    }
-
-    // Takes the next steps of an operation.
-    fn go_on(
-        &mut self,
-        pending: Pending,
-        tries: u32,
-        answer: &mut RawAnswer,
-    ) -> Result<(), MapRefusal>
-        requires empty { IsEmpty self.old }
-        requires its_own { IsPendingOf (in_map self.old) pending }
-        ensures its_own { IsOwnSession self.new }
-        ensures ended { OnOk result
-            (HasAnswered (op_of pending) (session_of pending) self.old self.new answer.new) }
-        ensures goes_on { OnErr result (StaysBusy pending self.old self.new) }
-        ensures refused { IfErr result (λ refusal. refusal ≡ MapRefusal.UnderWay) }
-        ensures unchanged { OnErr result (answer.new ≡ answer.old) }
-    {
-        match self.shared.map.advance(pending, tries) {
-            Ok((session, given)) => {
-                self.free = Some(session);
-                *answer = RawAnswer::of(given);
-                Ok(())
-            }
-            Err(pending) => {
-                self.under_way = Some(UnderWay::Busy(pending));
-                Err(MapRefusal::UnderWay)
-            }
-        }
-    }
-
-    // Puts an entry: it replaces, and where the key is absent it inserts.
+    // Puts an entry, beginning with this operation.
+    #[tactic(auto, using(crate::proofs::PutsGoOn::puts))]
     fn put_from(
         &mut self,
-        session: Session,
-        key: u64,
-        pointer: u64,
+        alloc: Global,
+        first: Op,
+        put: (u64, u64),
         tries: u32,
         answer: &mut RawAnswer,
     ) -> Result<(), MapRefusal>
-        requires empty { IsEmpty self.old }
-        requires its_own { IsSessionOf (in_map self.old) session }
+        requires its_own { IsOwnSession self.old }
+        requires at_hand { IsAtHand self.old }
+        requires of_put { IsOfPut put.0 put.1 first }
+        requires updates { IsUpdate first }
+        requires fits { FitsWords first }
         ensures its_own { IsOwnSession self.new }
-        ensures ended { OnOk result (HasPut key pointer session self.old self.new answer.new) }
-        ensures refused { IfErr result (IsNotPut key pointer session self.old self.new) }
+        ensures ended { OnOk result (HasPut put.0 put.1 self.old self.new answer.new) }
+        ensures refused { IfErr result (IsNotPut put.0 put.1 self.old self.new) }
         ensures unchanged { OnErr result (answer.new ≡ answer.old) }
     {
-        let replace = Op::Replace(key, pointer);
-        let (session, given) = self.start_by(session, key, pointer, replace, tries)?;
-        match given {
-            Answer::Replaced(_) => {
-                self.free = Some(session);
-                *answer = RawAnswer::of(given);
-                Ok(())
+        let mut op = first;
+        for _ in 0..PUT_OPERATIONS {
+            match self.put_by(alloc, op, put, tries) {
+                Ok(given) => {
+                    if has_put(given) {
+                        *answer = given;
+                        return Ok(());
+                    }
+                    op = next_of_put(given, put.0, put.1);
+                }
+                Err(refusal) => return Err(refusal),
             }
-            _ => self.put_new(session, key, pointer, tries, answer),
         }
+        Err(MapRefusal::Busy)
     }
 
-    // Inserts the entry of a put whose key was absent. Where another session has inserted the key since, a replacement begins.
-    fn put_new(
+    // Makes one operation of a put.
+    fn put_by(
         &mut self,
-        session: Session,
-        key: u64,
-        pointer: u64,
-        tries: u32,
-        answer: &mut RawAnswer,
-    ) -> Result<(), MapRefusal>
-        requires empty { IsEmpty self.old }
-        requires its_own { IsSessionOf (in_map self.old) session }
-        ensures its_own { IsOwnSession self.new }
-        ensures ended { OnOk result ((first : Session) → HasTried first session
-            → HasPut key pointer first self.old self.new answer.new) }
-        ensures refused { IfErr result (λ refusal. (first : Session) → HasTried first session
-            → IsNotPut key pointer first self.old self.new refusal) }
-        ensures unchanged { OnErr result (answer.new ≡ answer.old) }
-    {
-        let insert = Op::Insert(key, pointer);
-        let (session, given) = self.start_by(session, key, pointer, insert, tries)?;
-        match given {
-            Answer::Inserted => {
-                self.free = Some(session);
-                *answer = RawAnswer::of(given);
-                Ok(())
-            }
-            _ => Err(self.put_over(session, key, pointer)),
-        }
-    }
-
-    // Starts the insertion or the replacement of a put. Where it has ended, its session and its answer come back, and nothing is held.
-    fn start_by(
-        &mut self,
-        session: Session,
-        key: u64,
-        pointer: u64,
+        alloc: Global,
         op: Op,
+        put: (u64, u64),
         tries: u32,
-    ) -> Result<(Session, Answer), MapRefusal>
-        requires empty { IsEmpty self.old }
-        requires its_own { IsSessionOf (in_map self.old) session }
-        requires of_put { IsOfPut key pointer op }
+    ) -> Result<RawAnswer, MapRefusal>
+        requires its_own { IsOwnSession self.old }
+        requires at_hand { IsAtHand self.old }
+        requires of_put { IsOfPut put.0 put.1 op }
         requires updates { IsUpdate op }
         requires fits { FitsWords op }
+        ensures its_own { IsOwnSession self.new }
         ensures ended { IfOk result
-            (λ ended. IsAnswered (in_map self.old) op session ended.0 ended.1) }
-        ensures unchanged { OnOk result (self.new ≡ self.old) }
-        ensures its_own { OnErr result (IsOwnSession self.new) }
-        ensures refused { IfErr result (λ refusal. (first : Session) → HasTried first session
-            → IsNotPut key pointer first self.old self.new refusal) }
+            (HasAnswered op (place_in self.old) (known_in self.old) self.old self.new) }
+        ensures refused { IfErr result (IsNotPut put.0 put.1 self.old self.new) }
     {
-        match self.shared.map.start(session, op, tries) {
-            Ok(ended) => Ok(ended),
-            Err(Stopped::Waits(pending)) => {
-                self.under_way = Some(UnderWay::Putting(pending, key, pointer));
-                Err(MapRefusal::UnderWay)
-            }
-            Err(Stopped::Full(session)) => {
-                let refusal = shortage(&session, op);
-                self.free = Some(session);
+        let mut given = RawAnswer::shown(None);
+        match self.change_at_hand(alloc, op, tries, &mut given) {
+            Ok(()) => Ok(given),
+            Err(refusal) => {
+                self.keep_putting(put);
                 Err(refusal)
             }
         }
     }
 
-    // Takes the next steps of a put. Where its replacement finds the key absent, it inserts; where its insertion finds the key there, a
-    // replacement begins.
-    fn put_on(
+    // Keeps what is put with the operation that is under way, if one is.
+    fn keep_putting(&mut self, put: (u64, u64))
+        ensures { self.new ≡ record self.old { under_way = is_putting put self.old.under_way } }
+    {
+        if let Some(doing) = &mut self.under_way {
+            doing.put = Some(put);
+        }
+    }
+
+    /// Takes the next steps of the operation or the put that is under way. Where an operation of a put has ended, and nothing is put by it,
+    /// the call goes on as `put` does. It may be refused as `put` is then, and nothing is put.
+    pub fn advance(
         &mut self,
-        pending: Pending,
-        key: u64,
-        pointer: u64,
+        alloc: Global,
         tries: u32,
         answer: &mut RawAnswer,
     ) -> Result<(), MapRefusal>
-        requires empty { IsEmpty self.old }
-        requires its_own { IsPendingOf (in_map self.old) pending }
-        requires of_put { IsOfPut key pointer (op_of pending) }
+        requires its_own { IsOwnSession self.old }
         ensures its_own { IsOwnSession self.new }
-        ensures ended { OnOk result
-            (HasPut key pointer (session_of pending) self.old self.new answer.new) }
-        ensures refused { IfErr result
-            (IsNotPut key pointer (session_of pending) self.old self.new) }
+        ensures ended { OnOk result (EndsFrom self.old.under_way self.old self.new answer.new) }
+        ensures refused { IfErr result (IsAdvanceRefusal self.old.under_way self.old self.new) }
         ensures unchanged { OnErr result (answer.new ≡ answer.old) }
     {
+        match self.put_under_way() {
+            Some(put) => self.put_on(alloc, put, tries, answer),
+            None => self.step(tries, answer),
+        }
+    }
+
+    // What is to be put, if the operation that is under way is one of a put.
+    fn put_under_way(&self) -> Option<(u64, u64)>
+        ensures { result ≡ put_in self.now.under_way }
+    {
+        match &self.under_way {
+            Some(doing) => doing.put,
+            None => None,
+        }
+    }
+
+    // Takes the next steps of a put. Where its operation has put nothing, it goes on with the next one.
+    fn put_on(
+        &mut self,
+        alloc: Global,
+        put: (u64, u64),
+        tries: u32,
+        answer: &mut RawAnswer,
+    ) -> Result<(), MapRefusal>
+        requires its_own { IsOwnSession self.old }
+        requires putting { put_in self.old.under_way ≡ Some put }
+        ensures its_own { IsOwnSession self.new }
+        ensures ended { OnOk result (HasPut put.0 put.1 self.old self.new answer.new) }
+        ensures refused { IfErr result (IsNotPut put.0 put.1 self.old self.new) }
+        ensures unchanged { OnErr result (answer.new ≡ answer.old) }
+    {
+        let mut given = RawAnswer::shown(None);
+        if let Err(refusal) = self.step(tries, &mut given) {
+            return Err(refusal);
+        }
+        if has_put(given) {
+            *answer = given;
+            return Ok(());
+        }
+        let next = next_of_put(given, put.0, put.1);
+        self.put_from(alloc, next, put, tries, answer)
+    }
+
+    // Takes the next steps of the operation that is under way. One of a put stays one of it where it goes on.
+    fn step(&mut self, tries: u32, answer: &mut RawAnswer) -> Result<(), MapRefusal>
+        requires its_own { IsOwnSession self.old }
+        ensures its_own { IsOwnSession self.new }
+        ensures ended { OnOk result (HasStepped self.old.under_way self.old self.new answer.new) }
+        ensures refused { IfErr result (IsStepRefusal self.old.under_way self.old self.new) }
+        ensures unchanged { OnErr result (answer.new ≡ answer.old) }
+    {
+        let Some(doing) = self.under_way.take() else {
+            return Err(MapRefusal::Idle);
+        };
+        let UnderWay { pending, put } = doing;
         match self.shared.map.advance(pending, tries) {
-            Ok((session, given)) => match given {
-                Answer::Inserted | Answer::Replaced(_) => {
-                    self.free = Some(session);
-                    *answer = RawAnswer::of(given);
-                    Ok(())
-                }
-                Answer::Exists(_) => Err(self.put_over(session, key, pointer)),
-                _ => self.put_new(session, key, pointer, tries, answer),
-            },
+            Ok((held, given)) => {
+                self.rest(held);
+                *answer = RawAnswer::of(given);
+                Ok(())
+            }
             Err(pending) => {
-                self.under_way = Some(UnderWay::Putting(pending, key, pointer));
+                self.under_way = Some(UnderWay { pending, put });
                 Err(MapRefusal::UnderWay)
             }
         }
     }
 
-    // Begins the replacement of a put that has found the key there.
-    fn put_over(&mut self, session: Session, key: u64, pointer: u64) -> MapRefusal
-        requires empty { IsEmpty self.old }
-        requires its_own { IsSessionOf (in_map self.old) session }
+    /// Holds the session, so that the next calls find it held, until `let_go`. Meanwhile the map isn't renewed or closed.
+    pub fn hold(&mut self, tries: u32) -> Result<(), MapRefusal>
+        requires its_own { IsOwnSession self.old }
         ensures its_own { IsOwnSession self.new }
-        ensures refused { (first : Session) → HasTried first session
-            → IsNotPut key pointer first self.old self.new result }
+        ensures held { OnOk result (SeesMore self.old self.new) }
+        ensures refused { IfErr result (IsAway self.old self.new) }
     {
-        let replace = Op::Replace(key, pointer);
-        match self.shared.map.begin(session, replace) {
-            Ok(pending) => {
-                self.under_way = Some(UnderWay::Putting(pending, key, pointer));
-                MapRefusal::UnderWay
+        let held = self.grip(tries)?;
+        self.keeps = true;
+        self.held = Some(held);
+        Ok(())
+    }
+
+    /// Lets a session go that is held. One whose operation is under way is let go when that has ended.
+    pub fn let_go(&mut self)
+        requires its_own { IsOwnSession self.old }
+        ensures its_own { IsOwnSession self.new }
+        ensures same { KnowsSame self.old self.new }
+        ensures goes_on { self.new.under_way ≡ self.old.under_way }
+    {
+        self.keeps = false;
+        self.loosen();
+    }
+
+    // Frees a session that is held. It is still to stay held, if it was.
+    fn loosen(&mut self)
+        requires its_own { IsOwnSession self.old }
+        ensures its_own { IsOwnSession self.new }
+        ensures same { KnowsSame self.old self.new }
+        ensures goes_on { self.new.under_way ≡ self.old.under_way }
+        ensures not_held { self.new.held ≡ None }
+    {
+        if let Some(held) = self.held.take() {
+            self.free = Some(self.shared.map.release(held));
+        }
+    }
+
+    // Holds a session again that is to stay held, if it can be.
+    fn hold_again(&mut self, tries: u32)
+        requires its_own { IsOwnSession self.old }
+        requires at_hand { IsAtHand self.old }
+        ensures its_own { IsOwnSession self.new }
+        ensures sees { SeesMore self.old self.new }
+    {
+        if self.keeps {
+            let _outcome = self.hold(tries);
+        }
+    }
+
+    /// Tells the other session what this one has seen. A session that is held is let go for the call, and held again after it. Where a
+    /// renewal has begun by then, it stays free until its next change, or until the next `hold`.
+    ///
+    /// The call is refused with `Foreign`, if the sessions are of two maps; then with `UnderWay`, if an operation of either is under way;
+    /// and nothing changes. It is refused with `Busy`, if the map was renewed, or was about to be, at each look. Then nothing is told.
+    pub fn tell(&mut self, to: &mut SessionOwner, tries: u32) -> Result<(), MapRefusal>
+        requires its_own { IsOwnSession self.old }
+        requires others_own { IsOwnSession to.old }
+        requires numbered { self.old.number ≡ to.old.number → in_map self.old ≡ in_map to.old }
+        ensures its_own { IsOwnSession self.new }
+        ensures others_own { IsOwnSession to.new }
+        ensures told { OnOk result (TellsOn self.old self.new to.old to.new) }
+        ensures refused { IfErr result (IsTellRefusal self.old self.new to.old to.new) }
+    {
+        if self.number != to.number {
+            return Err(MapRefusal::Foreign);
+        }
+        if self.under_way.is_some() || to.under_way.is_some() {
+            return Err(MapRefusal::UnderWay);
+        }
+        self.loosen();
+        to.loosen();
+        let outcome = self.tell_free(to, tries);
+        self.hold_again(tries);
+        to.hold_again(tries);
+        outcome
+    }
+
+    // The same of two sessions of one map that are free.
+    fn tell_free(&mut self, to: &mut SessionOwner, tries: u32) -> Result<(), MapRefusal>
+        requires its_own { IsOwnSession self.old }
+        requires others_own { IsOwnSession to.old }
+        requires one_map { in_map self.old ≡ in_map to.old }
+        requires free { IsSome self.old.free }
+        requires other_free { IsSome to.old.free }
+        ensures its_own { IsOwnSession self.new }
+        ensures others_own { IsOwnSession to.new }
+        ensures sees { SeesMore self.old self.new }
+        ensures other_sees { SeesMore to.old to.new }
+        ensures told { OnOk result (IsPrefix (known_in self.old).seen (known_in to.new).seen) }
+        ensures refused { IfErr result (λ refusal. refusal ≡ MapRefusal.Busy) }
+    {
+        match (&mut self.free, &mut to.free) {
+            (Some(from), Some(session)) => {
+                match self.shared.map.try_tell(from, session, tries) {
+                    Ok(()) => Ok(()),
+                    Err(_) => Err(MapRefusal::Busy),
+                }
             }
-            Err((session, _full)) => {
-                let refusal = shortage(&session, replace);
+            _ => unreachable!(),
+        }
+    }
+
+    /// Tells what the session has of page numbers and rows in the current map. It is held for the call.
+    pub fn stock(&mut self, tries: u32, stock: &mut RawStock) -> Result<(), MapRefusal>
+        requires its_own { IsOwnSession self.old }
+        ensures its_own { IsOwnSession self.new }
+        ensures told { OnOk result (TellsStock self.old self.new stock.new) }
+        ensures refused { IfErr result (IsAway self.old self.new) }
+        ensures unchanged { OnErr result (stock.new ≡ stock.old) }
+    {
+        let held = self.grip(tries)?;
+        *stock = RawStock::of(self.shared.map.stock(&held));
+        self.rest(held);
+        Ok(())
+    }
+
+    /// Frees the owner. The session rests at its place again. An operation or a put under way goes on before, as by `advance`, so many
+    /// times. If it still waits then, the session is lost, and the map can't be renewed or closed.
+    pub fn free(self, alloc: Global, tries: u32)
+        requires its_own { IsOwnSession self }
+    {
+        let mut owner = self;
+        let mut answer = RawAnswer::shown(None);
+        for _ in 0..tries {
+            match owner.advance(alloc, 1, &mut answer) {
+                Err(MapRefusal::UnderWay) => {}
+                _ => break,
+            }
+        }
+        owner.let_go();
+        if let Some(session) = owner.free.take() {
+            owner.shared.places.leave(session);
+        }
+    }
+
+    // Takes the session out, held.
+    fn grip(&mut self, tries: u32) -> Result<Held, MapRefusal>
+        requires its_own { IsOwnSession self.old }
+        ensures its_own { IfOk result (IsHeldOf (in_map self.old)) }
+        ensures gripped { IfOk result (IsGripped self.old) }
+        ensures taken { OnOk result (IsTakenOut self.old self.new) }
+        ensures stays { OnErr result (IsOwnSession self.new) }
+        ensures refused { IfErr result (IsAway self.old self.new) }
+    {
+        let Some(session) = self.free.take() else {
+            return self.held.take().ok_or(MapRefusal::UnderWay);
+        };
+        match self.shared.map.try_hold(session, tries) {
+            Ok(held) => Ok(held),
+            Err(session) => {
                 self.free = Some(session);
-                refusal
+                Err(MapRefusal::Busy)
             }
+        }
+    }
+
+    // Puts a held session back: held, if it is to stay so, or free.
+    fn rest(&mut self, held: Held)
+        requires empty { IsEmpty self.old }
+        requires its_own { IsHeldOf (in_map self.old) held }
+        ensures its_own { IsOwnSession self.new }
+        ensures rested { IsRested held self.old self.new }
+    {
+        if self.keeps {
+            self.held = Some(held);
+        } else {
+            self.free = Some(self.shared.map.release(held));
         }
     }
 }
 
-// Why a session that lacks room can't begin an operation.
-fn shortage(session: &Session, op: Op) -> MapRefusal
-    ensures { IsShortage op session.now result }
+// Whether this answer of an operation of a put says that it has put the pointer.
+fn has_put(given: RawAnswer) -> bool
+    ensures { result ≡ tells_put given }
 {
-    if session.lacks_room_in_all(op) {
-        MapRefusal::Full
+    given.kind == INSERTED || given.kind == REPLACED
+}
+
+// The next operation of a put, after one that has put nothing and has this answer.
+fn next_of_put(given: RawAnswer, key: u64, pointer: u64) -> Op
+    ensures of_put { IsOfPut key pointer result }
+    ensures updates { IsUpdate result }
+    ensures fits { FitsWords result }
+{
+    if given.kind == ABSENT {
+        Op::Insert(key, pointer)
     } else {
-        MapRefusal::RowsBusy
+        Op::Replace(key, pointer)
     }
+}
+
+// Why an operation isn't made in the current map: it is refused, or the map of this number is full.
+enum NotMade {
+    Refused(MapRefusal),
+    Full(u64),
 }

@@ -1,7 +1,7 @@
-//! The traits of Rust's collections, for an index and its readers. Where memory is refused, or no page number is left, they panic; the
-//! calls of [`Index`] and [`Reader`] return an error instead.
+//! The traits of Rust's collections, for an index and its readers, and for a map. Where memory is refused, or no page number is left, they panic; the
+//! calls of [`Index`], [`Reader`] and [`Map`] return an error instead.
 
-use crate::{Index, Range, Reader};
+use crate::{Index, Map, Range, Reader};
 use std::fmt;
 
 impl Clone for Index {
@@ -23,6 +23,21 @@ impl Default for Index {
     /// ```
     fn default() -> Index {
         Index::new(32).expect("memory for an index")
+    }
+}
+
+impl Default for Map {
+    /// Opens an empty map of fan 32. It panics where memory is refused, and [`Map::new`] doesn't.
+    ///
+    /// ```
+    /// use blink::Map;
+    ///
+    /// let map = Map::default();
+    /// assert_eq!(map.session()?.put(1, 10)?, None);
+    /// # Ok::<(), blink::Error>(())
+    /// ```
+    fn default() -> Map {
+        Map::new(32).expect("memory for a map")
     }
 }
 

@@ -26,22 +26,22 @@ pub enum Error {
     KeyNotYours(u64),
     /// The pass has no insertion, or no deletion, left.
     Spent,
-    /// A pass of the table is still held somewhere, or was dropped; or a session of the map was leaked.
+    /// A pass of the table is still held somewhere, or was dropped; or a session of the map hasn't been dropped.
     Missing,
     /// The pass is of another table, or the session of another map.
     Foreign,
-    /// A map has 1 to 256 sessions.
+    /// The room of a map is for 1 to 256 sessions.
     BadSessions,
     /// Each place for a session is taken.
     NoSession,
-    /// The session has too few rows or page numbers in all for the change, and the map's pool too. [`Map`](crate::Map#a-map-that-is-full) says
-    /// what goes on then, and how a program opens a larger map. Of growing maps only one whose room is [fixed](crate::GrowingMap::open_fixed)
-    /// is full, and a renewal of it is refused so too.
+    /// The map's room is [fixed](crate::Map::open_fixed), and the session has too few rows or page numbers in all for the change, and the map's
+    /// pool too; or the map was to be renewed. [`Map`](crate::Map#a-map-that-is-full) says what goes on then, and how a program opens a larger
+    /// map.
     Full,
     /// The session has enough rows and page numbers in all for the change, but some rows are on their way back. The same change may be
     /// let through later.
     RowsBusy,
-    /// A growing map is being renewed by another thread; or it can't be, since a session is held or in a call.
+    /// The map is being renewed by another thread; or it can't be, since a session is held or in a call.
     Renewing,
     /// The map was closed before. [`Map::close`](crate::Map::close) takes the map, so this crate's calls never return it.
     Closed,
@@ -89,11 +89,11 @@ impl fmt::Display for Error {
             Error::NotYours => f.write_str("the key is not one of this pass's: its own pass has to be asked, or a glance"),
             Error::KeyNotYours(key) => write!(f, "key {key} is not one of the pass's that is to hand it over, or stands twice in the list"),
             Error::Spent => f.write_str("the pass has no insertion, or no deletion, left: give it back, and deal one with more"),
-            Error::Missing => f.write_str("a pass was not given back, and has to be; or a session was leaked, and then the map cannot be closed"),
+            Error::Missing => f.write_str("a pass was not given back, and has to be; or a session of the map was not dropped, and has to be"),
             Error::Foreign => f.write_str("the pass is of another table, or the session of another map"),
-            Error::BadSessions => f.write_str("a map has places for 1 to 256 sessions"),
+            Error::BadSessions => f.write_str("the room of a map is for 1 to 256 sessions"),
             Error::NoSession => f.write_str("each place for a session is taken: drop a session, or open the map with more places"),
-            Error::Full => f.write_str("too few page numbers or rows are left: close the map, compact the index, and open a map with more room over it"),
+            Error::Full => f.write_str("too few page numbers or rows are left: close the map, and open one with more room over the index, or one that grows"),
             Error::RowsBusy => f.write_str("rows of the session are on their way back: try again later"),
             Error::Closed => f.write_str("the map is closed"),
             Error::Renewing => f.write_str("the map is being renewed, or cannot be, since a session is held or in a call: try again"),

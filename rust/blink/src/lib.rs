@@ -9,7 +9,7 @@
 //! ```
 //! use blink::Map;
 //!
-//! let map = Map::with_capacity(1_000, 2)?;
+//! let map = Map::default();
 //! std::thread::scope(|scope| {
 //!     for thread in 0..2 {
 //!         let mut session = map.session().unwrap();
@@ -23,9 +23,8 @@
 //!
 //! - [`Index`] is a map from 64-bit keys to 64-bit record pointers, for one thread at a time. A record pointer is any number of 64 bits.
 //! - [`Reader`] reads an index that other threads read at the same time, each by a reader of its own.
-//! - [`Map`] shares the entries of an index among threads. Any of them changes any key, each by a [`Session`].
-//! - [`GrowingMap`] does the same and has no room to be told: it grows. Its sessions are [`GrowingSession`]s. Who wants no pause of changes
-//!   opens it with a [fixed room](GrowingMap::open_fixed).
+//! - [`Map`] shares the entries of an index among threads. Any of them changes any key, each by a [`Session`]. It has no room to be told: it
+//!   grows. Who wants no pause of changes opens it with a [fixed room](Map::open_fixed).
 //! - [`Table`] shares them too, and each key has an owner: a [`Pass`] has keys of its own, inserts, deletes and replaces these, and
 //!   looks at all.
 //! - [`Guards`] tell when an object may be freed whose pointer was taken out of a map.
@@ -34,9 +33,9 @@
 //!
 //! A `BTreeMap`'s calls have these names here. `insert` differs most: it leaves a present key as it is.
 //!
-//! `BTreeMap` | An [`Index`], and a [`Session`] of a map, or a [`GrowingSession`]
+//! `BTreeMap` | An [`Index`], and a [`Session`] of a map
 //! ---|---
-//! `new` | [`Index::new`]`(32)?` or `Index::default()`; of a map [`Map::with_capacity`] or [`GrowingMap::new`]
+//! `new` | [`Index::new`]`(32)?` or `Index::default()`; [`Map::new`]`(32)?` or `Map::default()`
 //! `insert` | `put`, which returns the pointer before; `insert` only inserts
 //! `remove` | `remove(key).pointer()`
 //! `contains_key` | `contains`
@@ -58,10 +57,8 @@
 //! but by what orders memory itself.
 #![warn(missing_docs)]
 
-mod changes;
 mod collection;
 mod error;
-mod growing;
 mod guards;
 mod index;
 pub mod keys;
@@ -72,19 +69,20 @@ mod ordered;
 mod range;
 mod read;
 mod reader;
+mod session;
 mod steps;
 mod sys;
 mod table;
 mod waiting;
 
 pub use error::Error;
-pub use growing::{GrowingMap, GrowingSession, Holding, UnclosedGrowing};
 pub use guards::{Guard, Guards, Held, Noted};
 pub use index::{Applied, Index};
-pub use map::{Left, Map, Reserve, Room, Session, Unclosed};
+pub use map::{Left, Map, Room, Unclosed};
 pub use operation::{Answer, Op};
 pub use range::LiveRange;
 pub use read::Range;
 pub use reader::Reader;
+pub use session::{Holding, Reserve, Session};
 pub use steps::{Begun, Unfinished};
 pub use table::{Pass, Pending, Table};

@@ -1,58 +1,43 @@
 //! Operations of sessions that go by steps, and wait for nobody.
 
-use crate::sys::{self, Code, Handle, RawAnswer};
-use crate::waiting::AdvanceCall;
-use crate::{Answer, Error, GrowingSession, Session};
-use std::marker::PhantomData;
+use crate::sys::{self, Code, RawAnswer};
+use crate::{Answer, Error, Session};
 
-/// What has become of an operation of a session: it has ended, or it rests; or it was a put, and is refused. The session is one of a map, or a
-/// [`GrowingSession`].
+/// What has become of an operation of a session: it has ended, or it rests; or it was a put, and is refused.
 #[derive(Debug)]
-pub enum Begun<'map, S = Session<'map>> {
+pub enum Begun {
     /// It has ended. The session is free again.
-    Ended(S, Answer),
+    Ended(Session, Answer),
     /// It rests, since another session has the page that it wants.
-    Resting(Unfinished<'map, S>),
-    /// A put that had begun is refused: [`Error::Full`] or [`Error::RowsBusy`]. It has changed nothing, and the session is free again.
-    Refused(S, Error),
+    Resting(Unfinished),
+    /// A put that had begun is refused, as [`Session::begin_put`] is. It has changed nothing, and the session is free again.
+    Refused(Session, Error),
 }
 
-/// An operation of a session that has begun and not ended. The session can do nothing else meanwhile. No other session waits for it. A growing
-/// map isn't renewed before it has ended.
+/// An operation of a session that has begun and not ended. The session can do nothing else meanwhile. No other session waits for it. The map
+/// isn't renewed before it has ended.
 ///
 /// Dropping it takes the operation to its end, if that doesn't wait long for other sessions. Only a put may be left undone, where the
-/// session has no room for its other half. Else the session's place is lost, and nothing more: the operation has made its change, or never
-/// makes it. A growing map that has lost a session can be neither renewed nor closed.
+/// map has no room for its other half. Else the session is lost, and the map can be neither renewed nor closed any more; the operation has made
+/// its change, or never makes it.
 #[derive(Debug)]
-pub struct Unfinished<'map, S = Session<'map>> {
-    session: S,
-    map: PhantomData<&'map ()>,
+pub struct Unfinished {
+    session: Session,
 }
 
-impl<'map> Unfinished<'map> {
+impl Unfinished {
     /// Takes the next steps, as [`Session::begin`] does the first ones. It waits for nobody.
-    pub fn advance(self, tries: u32) -> Begun<'map> {
-        advanced(self.session, |session| &mut session.handle, sys::blink_session_advance, tries)
+    pub fn advance(self, tries: u32) -> Begun {
+        let mut session = self.session;
+        let mut answer = RawAnswer::NONE;
+        // SAFETY: the handle is full and this call's own; an operation is under way. Nothing is refused but a put.
+        let code = unsafe { sys::blink_session_advance(&mut session.handle, tries, &mut answer) };
+        begun(session, code, answer)
     }
-}
-
-impl Unfinished<'static, GrowingSession> {
-    /// Takes the next steps, as [`GrowingSession::begin`] does the first ones. It waits for nobody.
-    pub fn advance(self, tries: u32) -> Begun<'static, GrowingSession> {
-        advanced(self.session, |session| &mut session.handle, sys::blink_growing_session_advance, tries)
-    }
-}
-
-// Takes the next steps of the session's operation. The call takes the session's handle, which is full; an operation is under way.
-fn advanced<'map, S>(mut session: S, handle: fn(&mut S) -> &mut Handle, advance: AdvanceCall, tries: u32) -> Begun<'map, S> {
-    let mut answer = RawAnswer::NONE;
-    // SAFETY: as the caller says, and the handle is this call's own. Nothing is refused but a put.
-    let code = unsafe { advance(handle(&mut session), tries, &mut answer) };
-    begun(session, code, answer)
 }
 
 // What has become of an operation that was to begin, by the code and the answer of the call.
-pub(crate) fn begins<'map, S>(session: S, code: Code, answer: RawAnswer) -> Result<Begun<'map, S>, (S, Error)> {
+pub(crate) fn begins(session: Session, code: Code, answer: RawAnswer) -> Result<Begun, (Session, Error)> {
     match code {
         0 | sys::PENDING => Ok(begun(session, code, answer)),
         code => Err((session, Error::of(code))),
@@ -60,10 +45,10 @@ pub(crate) fn begins<'map, S>(session: S, code: Code, answer: RawAnswer) -> Resu
 }
 
 // What has become of an operation, by the code and the answer of its last call.
-fn begun<'map, S>(session: S, code: Code, answer: RawAnswer) -> Begun<'map, S> {
+fn begun(session: Session, code: Code, answer: RawAnswer) -> Begun {
     match code {
         0 => Begun::Ended(session, Answer::of(answer)),
-        sys::PENDING => Begun::Resting(Unfinished { session, map: PhantomData }),
+        sys::PENDING => Begun::Resting(Unfinished { session }),
         code => Begun::Refused(session, Error::of(code)),
     }
 }

@@ -103,7 +103,7 @@ pub(crate) const BATCH_LIMIT: usize = 8192;
 /// The code of a change for which the session has room once its rows have come back.
 pub(crate) const ROWS_BUSY: Code = 107;
 
-/// The code of a growing map that is being renewed, or can't be.
+/// The code of a map that is being renewed, or can't be.
 pub(crate) const RENEWING: Code = 109;
 
 /// The code of an operation that is under way.
@@ -288,25 +288,30 @@ extern "C" {
     pub(crate) fn blink_pass_advance(pass: *mut Handle, tries: u32, answer: *mut RawAnswer) -> Code;
     pub(crate) fn blink_pass_free(pass: Handle);
 
-    pub(crate) fn blink_map_open_unnamed(
+    pub(crate) fn blink_map_open_unnamed(index: *mut Handle, out: *mut Handle, place: *mut u64) -> Code;
+    pub(crate) fn blink_map_open_with_room_unnamed(
         index: *mut Handle,
         pages: u32,
         rows: u32,
         sessions: u32,
+        fixed: bool,
         out: *mut Handle,
         place: *mut u64,
     ) -> Code;
     pub(crate) fn blink_map_name(map: *mut Handle, number: u64);
+    pub(crate) fn blink_map_share_alone(map: *mut Handle, out: *mut Handle) -> Code;
     pub(crate) fn blink_map_join_alone(map: *mut Handle, out: *mut Handle) -> Code;
-    pub(crate) fn blink_map_room_alone(map: *mut Handle, rows: *mut u64, pages: *mut u64);
+    pub(crate) fn blink_map_room_alone(map: *mut Handle, looks: u32, rows: *mut u64, pages: *mut u64) -> Code;
+    pub(crate) fn blink_map_renew(map: *mut Handle, looks: u32) -> Code;
     pub(crate) fn blink_map_close(map: *mut Handle, out: *mut Handle) -> Code;
     pub(crate) fn blink_map_free(map: Handle);
 
-    pub(crate) fn blink_session_find(session: *mut Handle, key: u64, answer: *mut RawAnswer) -> Code;
+    pub(crate) fn blink_session_find(session: *mut Handle, key: u64, tries: u32, answer: *mut RawAnswer) -> Code;
     pub(crate) fn blink_session_scan(
         session: *mut Handle,
         lo: u64,
         hi: u64,
+        tries: u32,
         entries: *mut RawEntry,
         places: usize,
         scanned: *mut RawScanned,
@@ -315,6 +320,7 @@ extern "C" {
         session: *mut Handle,
         lo: u64,
         hi: u64,
+        tries: u32,
         entries: *mut RawEntry,
         places: usize,
         scanned: *mut RawScanned,
@@ -366,85 +372,9 @@ extern "C" {
         answer: *mut RawAnswer,
     ) -> Code;
     pub(crate) fn blink_session_advance(session: *mut Handle, tries: u32, answer: *mut RawAnswer) -> Code;
-    pub(crate) fn blink_session_tell(from: *mut Handle, to: *mut Handle) -> Code;
-    pub(crate) fn blink_session_reserve(session: *mut Handle, reserve: *mut crate::Reserve) -> Code;
+    pub(crate) fn blink_session_tell(from: *mut Handle, to: *mut Handle, tries: u32) -> Code;
+    pub(crate) fn blink_session_hold(session: *mut Handle, tries: u32) -> Code;
+    pub(crate) fn blink_session_let_go(session: *mut Handle);
+    pub(crate) fn blink_session_reserve(session: *mut Handle, tries: u32, reserve: *mut crate::Reserve) -> Code;
     pub(crate) fn blink_session_free(session: Handle);
-
-    pub(crate) fn blink_growing_open(index: *mut Handle, sessions: u32, out: *mut Handle) -> Code;
-    pub(crate) fn blink_growing_open_with_room(
-        index: *mut Handle,
-        pages: u32,
-        rows: u32,
-        sessions: u32,
-        fixed: bool,
-        out: *mut Handle,
-    ) -> Code;
-    pub(crate) fn blink_growing_share(map: *mut Handle, out: *mut Handle) -> Code;
-    pub(crate) fn blink_growing_join(map: *mut Handle, out: *mut Handle) -> Code;
-    pub(crate) fn blink_growing_renew(map: *mut Handle, looks: u32) -> Code;
-    pub(crate) fn blink_growing_close(map: *mut Handle, out: *mut Handle) -> Code;
-    pub(crate) fn blink_growing_free(map: Handle);
-    pub(crate) fn blink_growing_session_find(session: *mut Handle, key: u64, tries: u32, answer: *mut RawAnswer) -> Code;
-    pub(crate) fn blink_growing_session_scan(
-        session: *mut Handle,
-        lo: u64,
-        hi: u64,
-        tries: u32,
-        entries: *mut RawEntry,
-        places: usize,
-        scanned: *mut RawScanned,
-    ) -> Code;
-    pub(crate) fn blink_growing_session_scan_back(
-        session: *mut Handle,
-        lo: u64,
-        hi: u64,
-        tries: u32,
-        entries: *mut RawEntry,
-        places: usize,
-        scanned: *mut RawScanned,
-    ) -> Code;
-    pub(crate) fn blink_growing_session_snapshot(
-        session: *mut Handle,
-        lo: u64,
-        hi: u64,
-        tries: u32,
-        entries: *mut RawEntry,
-        places: usize,
-        taken: *mut RawTaken,
-    ) -> Code;
-    pub(crate) fn blink_growing_session_insert(
-        session: *mut Handle,
-        key: u64,
-        pointer: u64,
-        tries: u32,
-        answer: *mut RawAnswer,
-    ) -> Code;
-    pub(crate) fn blink_growing_session_delete(session: *mut Handle, key: u64, tries: u32, answer: *mut RawAnswer) -> Code;
-    pub(crate) fn blink_growing_session_replace(
-        session: *mut Handle,
-        key: u64,
-        pointer: u64,
-        tries: u32,
-        answer: *mut RawAnswer,
-    ) -> Code;
-    pub(crate) fn blink_growing_session_exchange(
-        session: *mut Handle,
-        key: u64,
-        expected: u64,
-        pointer: u64,
-        tries: u32,
-        answer: *mut RawAnswer,
-    ) -> Code;
-    pub(crate) fn blink_growing_session_delete_exact(
-        session: *mut Handle,
-        key: u64,
-        expected: u64,
-        tries: u32,
-        answer: *mut RawAnswer,
-    ) -> Code;
-    pub(crate) fn blink_growing_session_advance(session: *mut Handle, tries: u32, answer: *mut RawAnswer) -> Code;
-    pub(crate) fn blink_growing_session_hold(session: *mut Handle, tries: u32) -> Code;
-    pub(crate) fn blink_growing_session_let_go(session: *mut Handle);
-    pub(crate) fn blink_growing_session_reserve(session: *mut Handle, tries: u32, reserve: *mut crate::Reserve) -> Code;
-    pub(crate) fn blink_growing_session_free(session: Handle);
 }

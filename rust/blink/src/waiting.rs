@@ -11,27 +11,20 @@ use std::thread;
 /// kernel.
 pub(crate) const TRIES: u32 = 100;
 
-/// The most steps in vain of a change that finds a growing map full, and can't renew it. It takes [`TRIES`] first, and ten times as many each
+/// The most steps in vain of a change that finds the map full, and can't renew it. It takes [`TRIES`] first, and ten times as many each
 /// time that it begins again: then its renewal outlasts a call of a thread that was preempted.
 pub(crate) const MOST_TRIES: u32 = 1_000_000;
 
-/// The call by which an operation that is under way goes on.
-pub(crate) type AdvanceCall = unsafe extern "C" fn(*mut Handle, u32, *mut RawAnswer) -> Code;
-
 /// Begins an operation of a session, and takes its steps to the end. It begins again where the session's rows were on their way back, and where
-/// the map was being renewed or couldn't be, with more tries then. The handle is full, and of what the two calls take.
-pub(crate) fn ended(
-    handle: &mut Handle,
-    mut begin: impl FnMut(*mut Handle, u32, *mut RawAnswer) -> Code,
-    advance: AdvanceCall,
-) -> Result<Answer, Error> {
+/// the map was being renewed or couldn't be, with more tries then. The handle is full, and a session's.
+pub(crate) fn ended(handle: &mut Handle, mut begin: impl FnMut(*mut Handle, u32, *mut RawAnswer) -> Code) -> Result<Answer, Error> {
     let mut answer = RawAnswer::NONE;
     let mut tries = TRIES;
     let mut code = begin(handle, tries, &mut answer);
     loop {
         code = match code {
-            // SAFETY: the handle is full, of what the call takes, and borrowed for writing; an operation is under way.
-            sys::PENDING => unsafe { advance(handle, TRIES, &mut answer) },
+            // SAFETY: the handle is full, and borrowed for writing; an operation is under way.
+            sys::PENDING => unsafe { sys::blink_session_advance(handle, TRIES, &mut answer) },
             sys::ROWS_BUSY => begin(handle, tries, &mut answer),
             sys::RENEWING => {
                 tries = (10 * tries).min(MOST_TRIES);
@@ -42,5 +35,16 @@ pub(crate) fn ended(
         if matches!(code, sys::PENDING | sys::ROWS_BUSY | sys::RENEWING) {
             thread::yield_now();
         }
+    }
+}
+
+/// Calls until the map isn't being renewed, and returns the last code.
+pub(crate) fn renewed(mut call: impl FnMut() -> Code) -> Code {
+    loop {
+        let code = call();
+        if code != sys::RENEWING {
+            return code;
+        }
+        thread::yield_now();
     }
 }

@@ -48,7 +48,7 @@ fn end(mut resting: Unfinished) -> Answer {
 
 // Begins the change after so many instructions of the insertion, and returns whether it rested; none, if there are fewer.
 fn begins_after(instructions: u32, other: &Other) -> Option<bool> {
-    let map = Map::open(&Index::from_sorted(4, entries()).unwrap(), Room { pages: 44, rows: 88, sessions: 2 }).unwrap();
+    let map = Map::open_fixed(&Index::from_sorted(4, entries()).unwrap(), Room { pages: 44, rows: 88, sessions: 2 }).unwrap();
     let mut writer = map.session().unwrap();
     let mut free: Option<Session> = Some(map.session().unwrap());
     let (mut passed, mut begun) = (0, None);

@@ -14,12 +14,12 @@ const ROOM: Room = Room {
 };
 
 // What `raise` makes of the counter, TIMES times in each thread.
-fn raised_by_all(raise: impl Fn(&mut Session<'_>) + Sync) -> Option<u64> {
+fn raised_by_all(raise: impl Fn(&mut Session) + Sync) -> Option<u64> {
     let mut index = Index::new(8).unwrap();
     for key in 0..20 {
         assert_eq!(index.insert(key, 0), Ok(Answer::Inserted));
     }
-    let map = Map::open(&index, ROOM).unwrap();
+    let map = Map::open_fixed(&index, ROOM).unwrap();
     thread::scope(|scope| {
         for _ in 0..THREADS {
             let (mut session, raise) = (map.session().unwrap(), &raise);
@@ -54,7 +54,7 @@ fn no_update_is_lost() {
 // Each thread inserts the counter where it isn't there, and one of them does it.
 #[test]
 fn an_update_begins_a_counter() {
-    let map = Map::open(&Index::new(8).unwrap(), ROOM).unwrap();
+    let map = Map::open_fixed(&Index::new(8).unwrap(), ROOM).unwrap();
     let begun: usize = thread::scope(|scope| {
         let threads: Vec<_> = (0..THREADS)
             .map(|_| {
@@ -70,7 +70,7 @@ fn an_update_begins_a_counter() {
 
 #[test]
 fn an_update_takes_a_key_away_where_its_function_says() {
-    let map = Map::open(&Index::new(8).unwrap(), ROOM).unwrap();
+    let map = Map::open_fixed(&Index::new(8).unwrap(), ROOM).unwrap();
     let mut session = map.session().unwrap();
     assert_eq!(session.update(COUNTER, |_| None), Ok(None));
     assert_eq!(session.insert(COUNTER, 70), Ok(Answer::Inserted));
@@ -82,7 +82,7 @@ fn an_update_takes_a_key_away_where_its_function_says() {
 
 #[test]
 fn a_removal_finds_what_it_expects() {
-    let map = Map::open(&Index::new(8).unwrap(), ROOM).unwrap();
+    let map = Map::open_fixed(&Index::new(8).unwrap(), ROOM).unwrap();
     let (mut one, mut other) = (map.session().unwrap(), map.session().unwrap());
     assert_eq!(one.insert(COUNTER, 70), Ok(Answer::Inserted));
     assert_eq!(other.compare_exchange(COUNTER, 70, 71), Ok(Answer::Replaced(70)));
@@ -107,7 +107,7 @@ fn no_update_is_removed_unseen() {
 }
 
 // The session, and the answer of the operation that has begun.
-fn ended(mut begun: Begun<'_>) -> (Session<'_>, Answer) {
+fn ended(mut begun: Begun) -> (Session, Answer) {
     loop {
         match begun {
             Begun::Ended(session, answer) => return (session, answer),
@@ -119,7 +119,7 @@ fn ended(mut begun: Begun<'_>) -> (Session<'_>, Answer) {
 
 #[test]
 fn an_exchange_begins_and_rests() {
-    let map = Map::open(&Index::new(8).unwrap(), ROOM).unwrap();
+    let map = Map::open_fixed(&Index::new(8).unwrap(), ROOM).unwrap();
     let mut session = map.session().unwrap();
     session.insert(COUNTER, 70).unwrap();
     for (expected, answer) in [(71, Answer::Exists(70)), (70, Answer::Replaced(70)), (70, Answer::Exists(72))] {
@@ -133,7 +133,7 @@ fn an_exchange_begins_and_rests() {
 
 #[test]
 fn a_removal_begins_and_rests() {
-    let map = Map::open(&Index::new(8).unwrap(), ROOM).unwrap();
+    let map = Map::open_fixed(&Index::new(8).unwrap(), ROOM).unwrap();
     let mut session = map.session().unwrap();
     session.insert(COUNTER, 70).unwrap();
     for (expected, answer) in [(71, Answer::Exists(70)), (70, Answer::Removed(70)), (70, Answer::Absent)] {

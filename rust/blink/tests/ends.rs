@@ -68,7 +68,7 @@ fn ends(session: &mut Session, plain: &Plain, key: u64) {
 
 #[test]
 fn a_session_reads_from_either_end_as_a_btree_map() {
-    let map = Map::open(&Index::new(4).unwrap(), Room { pages: 20_000, rows: 40_000, sessions: 1 }).unwrap();
+    let map = Map::open_fixed(&Index::new(4).unwrap(), Room { pages: 20_000, rows: 40_000, sessions: 1 }).unwrap();
     let (mut session, mut plain, mut draw) = (map.session().unwrap(), Plain::new(), Draw(88_172_645_463_325_252));
     for turn in 0..24_000 {
         change(&mut session, &mut plain, &mut draw, turn);
@@ -88,7 +88,7 @@ fn a_session_reads_from_either_end_as_a_btree_map() {
 #[test]
 fn the_greatest_and_the_least_key_are_at_the_ends() {
     let index = Index::from_entries(4, [(0, 1), (u64::MAX, 2)]).unwrap();
-    let map = Map::open(&index, Room { pages: 0, rows: 0, sessions: 1 }).unwrap();
+    let map = Map::open_fixed(&index, Room { pages: 0, rows: 0, sessions: 1 }).unwrap();
     let mut session = map.session().unwrap();
     assert_eq!((session.first(), session.last()), (Some((0, 1)), Some((u64::MAX, 2))));
     assert_eq!((session.prev(0), session.next(u64::MAX)), (None, None));

@@ -59,7 +59,7 @@ fn work(session: &mut Session, guard: &mut Guard, guards: &Guards, objects: &Obj
 #[test]
 fn no_object_is_read_once_it_was_given_back() {
     let room = Room { pages: 5_000, rows: 50_000, sessions: THREADS as u32 };
-    let map = Map::open(&Index::new(4).unwrap(), room).unwrap();
+    let map = Map::open_fixed(&Index::new(4).unwrap(), room).unwrap();
     let objects = Objects {
         there: (0..THREADS * TURNS).map(|_| AtomicBool::new(false)).collect(),
         next: AtomicUsize::new(0),

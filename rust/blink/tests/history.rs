@@ -6,6 +6,7 @@
 
 use blink::{Answer, Begun, Error, Index, Map, Op, Room, Session};
 use std::collections::{BTreeSet, HashMap, HashSet};
+use std::sync::atomic::{AtomicBool, Ordering};
 use std::thread;
 use std::time::{Duration, Instant};
 
@@ -88,12 +89,13 @@ fn is_linearizable(history: &[Call], opening: &HashMap<u64, u64>) -> bool {
 
 // ---- the recording
 
-// What is done at a map.
+// What is done at a map, which may be renewed all the while.
 #[derive(Clone, Copy)]
 struct Plan {
     keys: u64,
     fan: u8,
     calls: u64,
+    renewed: bool,
 }
 
 fn next_random(state: &mut u64) -> u64 {
@@ -116,12 +118,12 @@ fn told_by(op: Op, answer: Answer) -> (State, State) {
     }
 }
 
-// An operation that begins, also where the session's rows are on their way back for a while.
+// An operation that begins, also where the session's rows are on their way back for a while, or the map is renewed.
 fn begins(mut session: Session, op: Op) -> Begun {
     loop {
         match session.begin(op, 1) {
             Ok(begun) => return begun,
-            Err((free, Error::RowsBusy)) => session = free,
+            Err((free, Error::RowsBusy | Error::Renewing)) => session = free,
             Err((_, error)) => panic!("{op:?}: {error}"),
         }
         thread::yield_now();
@@ -129,7 +131,7 @@ fn begins(mut session: Session, op: Op) -> Begun {
 }
 
 // An operation that rests where another session has its page, while its thread does something else. Returns how often it rested.
-fn by_steps<'map>(session: Session<'map>, op: Op, random: &mut u64) -> (Session<'map>, Answer, u64) {
+fn by_steps(session: Session, op: Op, random: &mut u64) -> (Session, Answer, u64) {
     let mut rests = 0;
     let mut begun = begins(session, op);
     loop {
@@ -211,20 +213,32 @@ struct Recorded {
     index: Index,
 }
 
+// Room for all calls of a plan, with which a map needs no renewal.
+fn room_for(plan: Plan) -> Room {
+    let calls = u32::try_from(plan.calls * THREADS).unwrap();
+    Room { pages: calls / 2 + 20_000, rows: calls + 20_000, sessions: 2 * THREADS as u32 }
+}
+
+// Renews the map again and again until the others have ended, and returns how often it could.
+fn renewals_of(map: &Map, ended: &AtomicBool) -> u64 {
+    let mut renewals = 0;
+    while !ended.load(Ordering::Relaxed) {
+        renewals += u64::from(map.renew(1_000_000).is_ok());
+        thread::sleep(Duration::from_micros(100));
+    }
+    renewals
+}
+
 fn recorded(plan: Plan) -> Recorded {
     let entries: Vec<(u64, u64)> = opening(plan).into_iter().collect();
     let index = Index::from_entries(plan.fan, entries.iter().copied()).unwrap();
-    let calls = u32::try_from(plan.calls * THREADS).unwrap();
-    let room = Room {
-        pages: calls / 2 + 20_000,
-        rows: calls + 20_000,
-        sessions: 2 * THREADS as u32,
-    };
-    let map = Map::open(&index, room).unwrap();
+    let map = if plan.renewed { Map::open(&index).unwrap() } else { Map::open_fixed(&index, room_for(plan)).unwrap() };
     let start = Instant::now();
+    let ended = AtomicBool::new(false);
     let mut history = Vec::new();
-    let mut rests = 0;
+    let (mut rests, mut renewals) = (0, 0);
     thread::scope(|scope| {
+        let renewing = plan.renewed.then(|| scope.spawn(|| renewals_of(&map, &ended)));
         let workers: Vec<_> = (0..THREADS as usize)
             .map(|thread| {
                 let map = &map;
@@ -236,7 +250,10 @@ fn recorded(plan: Plan) -> Recorded {
             history.extend(calls);
             rests += rested;
         }
+        ended.store(true, Ordering::Relaxed);
+        renewals = renewing.map_or(0, |renewing| renewing.join().unwrap());
     });
+    assert_eq!(renewals > 5, plan.renewed, "{renewals} renewals");
     let index = map.close().unwrap();
     Recorded { history, rests, index }
 }
@@ -261,25 +278,34 @@ fn check(plan: Plan) -> u64 {
 
 // ---- a million calls
 
-const CALLS: u64 = 21_000;
+// Of each thread, in a map that needs no renewal.
+const WHOLE: Plan = Plan { keys: 4, fan: 4, calls: 21_000, renewed: false };
 
 #[test]
 fn histories_at_4_keys() {
-    let rests = check(Plan { keys: 4, fan: 4, calls: CALLS }) + check(Plan { keys: 4, fan: 32, calls: CALLS });
+    let rests = check(Plan { keys: 4, fan: 4, ..WHOLE }) + check(Plan { keys: 4, fan: 32, ..WHOLE });
     // eight threads at one leaf or two: some of their operations find its latch taken
     assert!(rests > 0);
 }
 
 #[test]
 fn histories_at_64_keys() {
-    check(Plan { keys: 64, fan: 4, calls: CALLS });
-    check(Plan { keys: 64, fan: 8, calls: CALLS });
+    check(Plan { keys: 64, fan: 4, ..WHOLE });
+    check(Plan { keys: 64, fan: 8, ..WHOLE });
 }
 
 #[test]
 fn histories_at_100_000_keys() {
-    check(Plan { keys: 100_000, fan: 5, calls: CALLS });
-    check(Plan { keys: 100_000, fan: 16, calls: CALLS });
+    check(Plan { keys: 100_000, fan: 5, ..WHOLE });
+    check(Plan { keys: 100_000, fan: 16, ..WHOLE });
+}
+
+// Operations that rest hold a renewal up, and are held up by none.
+#[test]
+fn histories_through_renewals() {
+    for (keys, fan) in [(4, 4), (64, 8), (1_000, 5)] {
+        check(Plan { keys, fan, renewed: true, ..WHOLE });
+    }
 }
 
 // ---- what the search refuses
@@ -310,7 +336,7 @@ fn real_time_decides() {
     assert!(is_so(&[(0, 0, 5, None, Some(1)), (1, 1, 4, None, Some(2)), (2, 2, 3, Some(2), None)]));
 }
 
-const PLANTED: Plan = Plan { keys: 4, fan: 4, calls: 500 };
+const PLANTED: Plan = Plan { keys: 4, fan: 4, calls: 500, renewed: false };
 
 #[test]
 fn a_planted_stale_read_is_found() {

@@ -109,7 +109,7 @@ fn stops<T: Debug>(
     fits: &impl Fn(&T, &Plain, &Plain) -> bool,
 ) -> bool {
     let index = index();
-    let map = Map::open(&index, Room { pages: 300, rows: 700, sessions: 2 }).unwrap();
+    let map = Map::open_fixed(&index, Room { pages: 300, rows: 700, sessions: 2 }).unwrap();
     let (mut reader, mut writer) = (map.session().unwrap(), map.session().unwrap());
     let (mut passed, mut made) = (0, false);
     let answer = by_instruction(

@@ -57,7 +57,7 @@ fn scans_go_on_by_short_parts() {
     let index = thousand();
     let sum = with_most(300, || index.iter().map(|(key, _)| key).sum::<u64>());
     assert_eq!(sum, 999 * 1000 / 2);
-    let map = Map::open(&index, Room { pages: 0, rows: 0, sessions: 1 }).unwrap();
+    let map = Map::open_fixed(&index, Room { pages: 0, rows: 0, sessions: 1 }).unwrap();
     let mut session = map.session().unwrap();
     let count = with_most(300, || session.range(100..900).count());
     assert_eq!(count, 800);
@@ -65,7 +65,7 @@ fn scans_go_on_by_short_parts() {
 
 #[test]
 fn a_snapshot_is_refused_and_its_session_goes_on() {
-    let map = Map::open(&thousand(), Room { pages: 22, rows: 44, sessions: 1 }).unwrap();
+    let map = Map::open_fixed(&thousand(), Room { pages: 22, rows: 44, sessions: 1 }).unwrap();
     let mut session = map.session().unwrap();
     assert_eq!(with_most(300, || session.snapshot(.., 10)), Err(Error::OutOfMemory));
     // also where the first places fit and more don't

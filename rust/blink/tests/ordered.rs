@@ -17,7 +17,7 @@ fn entry((&key, &pointer): (&u64, &u64)) -> (u64, u64) {
 #[test]
 fn a_session_answers_as_a_plain_map() {
     for fan in [4, 32] {
-        let map = Map::open(&Index::new(fan).unwrap(), Room { pages: 10_000, rows: 30_000, sessions: 1 }).unwrap();
+        let map = Map::open_fixed(&Index::new(fan).unwrap(), Room { pages: 10_000, rows: 30_000, sessions: 1 }).unwrap();
         let (mut session, mut plain, mut state) = (map.session().unwrap(), BTreeMap::new(), 1);
         for _ in 0..20_000 {
             let (kind, key) = (next_random(&mut state) % 8, next_random(&mut state) % 500);
@@ -43,7 +43,7 @@ fn a_session_answers_as_a_plain_map() {
 #[test]
 fn a_range_of_many_parts_is_kept_in_part() {
     let entries: Vec<(u64, u64)> = (0..1_000).map(|key| (key, key)).collect();
-    let map = Map::open(&Index::from_sorted(8, entries.iter().copied()).unwrap(), Room { pages: 100, rows: 1_000, sessions: 1 }).unwrap();
+    let map = Map::open_fixed(&Index::from_sorted(8, entries.iter().copied()).unwrap(), Room { pages: 100, rows: 1_000, sessions: 1 }).unwrap();
     let mut session = map.session().unwrap();
     assert_eq!(session.retain(100..900, |key, _| key % 100 == 0).unwrap(), 792);
     let left: Vec<u64> = session.range(100..900).map(|(key, _)| key).collect();
@@ -55,7 +55,7 @@ fn a_range_of_many_parts_is_kept_in_part() {
 fn threads_that_take_the_first_entry_take_each_once() {
     const KEYS: u64 = 20_000;
     let entries: Vec<(u64, u64)> = (0..KEYS).map(|key| (key, !key)).collect();
-    let map = Map::open(&Index::from_sorted(32, entries.iter().copied()).unwrap(), Room { pages: 2_000, rows: 20_000, sessions: 4 }).unwrap();
+    let map = Map::open_fixed(&Index::from_sorted(32, entries.iter().copied()).unwrap(), Room { pages: 2_000, rows: 20_000, sessions: 4 }).unwrap();
     let mut taken: Vec<(u64, u64)> = thread::scope(|scope| {
         let take = |_| {
             let mut session = map.session().unwrap();

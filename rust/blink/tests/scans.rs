@@ -7,9 +7,10 @@
 //! is as new as what it says of a lesser one or newer, so it never reports a newer version of the lesser. For backward scans it is the
 //! other way round.
 
-use blink::{Answer, Index, Map, Room, Session};
+use blink::{Answer, Error, Index, Map, Room, Session};
 use std::sync::atomic::{AtomicBool, AtomicU64, Ordering::SeqCst};
 use std::thread;
+use std::time::Duration;
 
 const WRITERS: usize = 8;
 const SCANNERS: usize = 2;
@@ -95,9 +96,14 @@ fn scan_once(session: &mut Session, versions: &Versions, direction: Direction, l
     (hi - lo + 1) as u64
 }
 
-fn compare(fan: u8, reports: u64, direction: Direction) {
+// A map with room for all changes.
+fn with_room(fan: u8) -> Map {
     let room = Room { pages: 200_000, rows: 1_000_000, sessions: (WRITERS + SCANNERS) as u32 };
-    let map = Map::open(&Index::new(fan).unwrap(), room).unwrap();
+    Map::open_fixed(&Index::new(fan).unwrap(), room).unwrap()
+}
+
+// Compares scans of this map, which is renewed meanwhile, if it isn't one with a fixed room.
+fn compare(map: Map, reports: u64, direction: Direction) {
     let versions = Versions::new();
     let ended = AtomicBool::new(false);
     thread::scope(|scope| {
@@ -135,8 +141,14 @@ fn compare(fan: u8, reports: u64, direction: Direction) {
                 })
             })
             .collect();
+        let renewing = scope.spawn(|| {
+            while !ended.load(SeqCst) && map.renew(1_000) != Err(Error::Full) {
+                thread::sleep(Duration::from_micros(100));
+            }
+        });
         scanners.into_iter().for_each(|scanner| scanner.join().unwrap());
         ended.store(true, SeqCst);
+        renewing.join().unwrap();
     });
     let closed = map.close().unwrap();
     for key in 0..KEYS {
@@ -147,22 +159,28 @@ fn compare(fan: u8, reports: u64, direction: Direction) {
 
 #[test]
 fn a_million_reports_by_pages_of_four() {
-    compare(4, 1_000_000, Direction::Up);
+    compare(with_room(4), 1_000_000, Direction::Up);
 }
 
 #[test]
 fn a_million_backward_reports_by_pages_of_four() {
-    compare(4, 1_000_000, Direction::Down);
+    compare(with_room(4), 1_000_000, Direction::Down);
 }
 
 #[test]
 fn reports_by_pages_of_32() {
-    compare(32, 500_000, Direction::Up);
+    compare(with_room(32), 500_000, Direction::Up);
 }
 
 #[test]
 fn backward_reports_by_pages_of_32() {
-    compare(32, 500_000, Direction::Down);
+    compare(with_room(32), 500_000, Direction::Down);
+}
+
+#[test]
+fn reports_through_renewals() {
+    compare(Map::new(4).unwrap(), 300_000, Direction::Up);
+    compare(Map::new(32).unwrap(), 300_000, Direction::Down);
 }
 
 #[test]

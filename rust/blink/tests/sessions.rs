@@ -6,7 +6,7 @@ use std::sync::Arc;
 use std::thread::{self, JoinHandle};
 
 fn map_over(index: &Index, pages: u32, rows: u32, sessions: u32) -> Map {
-    Map::open(index, Room { pages, rows, sessions }).unwrap()
+    Map::open_fixed(index, Room { pages, rows, sessions }).unwrap()
 }
 
 fn next_random(state: &mut u64) -> u64 {
@@ -175,7 +175,7 @@ fn fills_and_loses_nothing(pages: u32, rows: u32) -> (u64, Left) {
         assert_eq!((session.insert(0, 0), session.put(0, 7)), (Ok(Answer::Exists(7)), Ok(Some(7))));
         assert_eq!((session.get(0), session.get(count)), (Some(7), None));
     }
-    let left = map.room();
+    let left = map.room().unwrap();
     drop(sessions);
     let closed = map.close().unwrap();
     assert!(closed.iter().eq((0..count).map(|key| (key, key + 7))));
@@ -195,7 +195,7 @@ fn one_session_uses_nearly_all_page_numbers() {
         let map = map_over(&Index::new(16).unwrap(), pages, 2 * pages + 1_000, 1);
         let mut session = map.session().unwrap();
         let refused = (0..16 * u64::from(pages)).find(|&key| session.insert(key, key).is_err());
-        let left = map.room().pages + session.reserve().pages;
+        let left = map.room().unwrap().pages + session.reserve().pages;
         assert!(refused.is_some() && left < 22, "{left} of {pages}");
     }
 }
@@ -208,7 +208,7 @@ fn sessions_that_draw_by_turns_lose_no_page_number() {
         let mut sessions: Vec<Session> = (0..count).map(|_| map.session().unwrap()).collect();
         fill(&mut sessions);
         let kept: Vec<u64> = sessions.iter_mut().map(|session| session.reserve().pages).collect();
-        let pool = map.room().pages;
+        let pool = map.room().unwrap().pages;
         assert!(pool < 22 && kept.iter().all(|&left| left < 22), "{pool} {kept:?}");
         drop(sessions);
         let used = u64::from(map.close().unwrap().pages()) - 1;
@@ -248,7 +248,7 @@ fn a_map_with_three_rows_takes_any_number_of_changes_that_need_one() {
     }
     assert_eq!(session.remove(2), Ok(Answer::Removed(20)));
     assert_eq!(session.insert(3, 30), Err(Error::Full));
-    assert_eq!((session.get(1), session.get(2), map.room()), (Some(1000), None, Left { pages: 0, rows: 2 }));
+    assert_eq!((session.get(1), session.get(2), map.room().unwrap()), (Some(1000), None, Left { pages: 0, rows: 2 }));
     drop(session);
     assert!(map.close().unwrap().iter().eq([(1, 1000)]));
 }
@@ -298,7 +298,7 @@ fn a_session_tells_what_its_insertions_use() {
     // an insertion has to have 44 rows when it begins, so the rows that were replaced come back before; it changes nothing either
     assert_eq!(session.insert(5, 6), Ok(Answer::Exists(5)));
     assert_eq!((session.reserve(), other.reserve()), (reserve(47, 43, 4, 0), reserve(0, 0, 0, 0)));
-    assert_eq!(map.room(), Left { pages: 150, rows: 150 });
+    assert_eq!(map.room().unwrap(), Left { pages: 150, rows: 150 });
 }
 
 // Of one session the first replacement draws half of the pool, 100 rows. Of 13 replacements twelve are appended, and the last writes a row.
@@ -318,7 +318,7 @@ fn a_session_tells_which_rows_have_come_back() {
         assert_eq!(session.reserve(), expected, "{turn}");
     }
     // 200 rows are three times 64 and 8
-    assert_eq!((session.reserve(), map.room()), (reserve(0, 36, 56, 8), Left { pages: 0, rows: 100 }));
+    assert_eq!((session.reserve(), map.room().unwrap()), (reserve(0, 36, 56, 8), Left { pages: 0, rows: 100 }));
     drop(session);
     assert_eq!(map.session().unwrap().reserve(), reserve(0, 36, 56, 8));
 }
@@ -446,7 +446,7 @@ fn a_place_is_taken_again() {
 #[test]
 fn rooms_that_are_refused() {
     let index = Index::from_entries(4, [(1, 10)]).unwrap();
-    let open = |pages, sessions| Map::open(&index, Room { pages, rows: 0, sessions }).map(drop);
+    let open = |pages, sessions| Map::open_fixed(&index, Room { pages, rows: 0, sessions }).map(drop);
     assert_eq!(open(u32::MAX, 0), Err(Error::BadSessions));
     assert_eq!(open(0, 257), Err(Error::BadSessions));
     assert_eq!(open(1_048_575, 256), Err(Error::TooLarge));
@@ -481,7 +481,7 @@ fn a_session_moves_to_another_thread() {
 #[test]
 fn each_of_256_sessions_finds_its_part_of_the_room() {
     let room = Room { pages: 20_000, rows: 40_000, sessions: 256 };
-    let map = Map::open(&Index::new(16).unwrap(), room).unwrap();
+    let map = Map::open_fixed(&Index::new(16).unwrap(), room).unwrap();
     let mut sessions: Vec<Session> = (0..256).map(|_| map.session().unwrap()).collect();
     for (key, session) in (0..).zip(&mut sessions) {
         assert_eq!(session.insert(key, 10 * key), Ok(Answer::Inserted), "{key}");
@@ -491,8 +491,8 @@ fn each_of_256_sessions_finds_its_part_of_the_room() {
 }
 
 // A thread that outlives the call, with a session that owns a share of the map.
-fn fills(map: &Arc<Map>, from: u64) -> JoinHandle<Session<'static>> {
-    let mut session = map.session_owned().unwrap();
+fn fills(map: &Arc<Map>, from: u64) -> JoinHandle<Session> {
+    let mut session = map.session().unwrap();
     thread::spawn(move || {
         (from..from + 100).for_each(|key| assert_eq!(session.insert(key, 10 * key), Ok(Answer::Inserted)));
         session
@@ -503,7 +503,7 @@ fn fills(map: &Arc<Map>, from: u64) -> JoinHandle<Session<'static>> {
 fn a_session_that_owns_a_share_keeps_its_map() {
     let map = Arc::new(map_over(&Index::new(8).unwrap(), 500, 2_000, 2));
     let mut sessions: Vec<_> = [fills(&map, 0), fills(&map, 100)].map(|thread| thread.join().unwrap()).into();
-    assert_eq!(map.session_owned().unwrap_err(), Error::NoSession);
+    assert_eq!(map.session().unwrap_err(), Error::NoSession);
     let map = Arc::try_unwrap(map).expect_err("two sessions have a share");
     let mut last = sessions.pop().unwrap();
     drop(sessions);
@@ -515,7 +515,7 @@ fn a_session_that_owns_a_share_keeps_its_map() {
 
 // So many insertions by turns of the sessions, none of which is refused.
 fn fits(index: &Index, insertions: u32, sessions: u32, key: impl Fn(u64) -> u64) {
-    let map = Map::open(index, Room::for_insertions(index, insertions, sessions)).unwrap();
+    let map = Map::open_fixed(index, Room::for_insertions(index, insertions, sessions)).unwrap();
     let mut sessions: Vec<_> = (0..sessions).map(|_| map.session().unwrap()).collect();
     for at in 0..insertions as usize {
         let turn = at % sessions.len();

@@ -83,7 +83,7 @@ trait Reads {
     fn find(&mut self, key: u64) -> Option<u64>;
 }
 
-impl Reads for Session<'_> {
+impl Reads for Session {
     fn scan(&mut self, range: RangeInclusive<u64>, most: usize) -> Vec<(u64, u64)> {
         self.range(range).take(most).collect()
     }
@@ -181,7 +181,7 @@ fn inserts<R: Reads>(insert: impl FnOnce() -> Result<Answer, Error>, readers: &m
 
 fn session_inserts(full: &Full, new: u64) {
     let entries = Entries::of(full, new);
-    let map = Map::open(&entries.index(full), Room { pages: 22, rows: 44, sessions: 5 }).unwrap();
+    let map = Map::open_fixed(&entries.index(full), Room { pages: 22, rows: 44, sessions: 5 }).unwrap();
     let mut writer = map.session().unwrap();
     let mut readers = [(); 4].map(|()| map.session().unwrap());
     inserts(|| writer.insert(new, new + 7), &mut readers, &entries);

@@ -25,17 +25,17 @@ const FIRST: u64 = 1_000;
 
 fn map_of_four(sessions: u32) -> Map {
     let index = Index::from_sorted(4, [(1, FIRST), (2, 20), (3, 30), (4, 40)]).unwrap();
-    Map::open(&index, Room { pages: 0, rows: ROWS, sessions }).unwrap()
+    Map::open_fixed(&index, Room { pages: 0, rows: ROWS, sessions }).unwrap()
 }
 
 // A session that gives key 1 the next greater pointer each time.
-struct Writer<'map> {
-    session: Option<Session<'map>>,
+struct Writer {
+    session: Option<Session>,
     pointer: u64,
 }
 
-impl<'map> Writer<'map> {
-    fn new(map: &'map Map) -> Writer<'map> {
+impl Writer {
+    fn new(map: &Map) -> Writer {
         Writer { session: Some(map.session().unwrap()), pointer: FIRST }
     }
 
@@ -93,7 +93,7 @@ fn stops_after(instructions: u32) -> Option<bool> {
     assert!(found == FIRST || found == FIRST + u64::from(replaced), "{found} after {instructions} instructions");
     // Of three sessions one draws a sixth of what the pool has, of 100 rows 16, and the late one 14 of the other 84. The writer draws
     // again only while its rows don't come back, up to its quota of 44; then the late one draws 9 of 56.
-    assert_eq!(map.room(), Left { pages: 0, rows: if is_held { 47 } else { 70 } });
+    assert_eq!(map.room().unwrap(), Left { pages: 0, rows: if is_held { 47 } else { 70 } });
     // The reader has gone on, so no row is held back any more.
     assert_eq!(writer.replaces_at_most(5 * ROWS * PER_ROW), 5 * ROWS * PER_ROW);
     assert_eq!(reader.get(1), Some(writer.pointer));

@@ -1,7 +1,7 @@
 use Rattle.std.proofs.Common.{IfErr, subst}
 use Rattle.blink_owners.specs.declared.session_owner.SessionOwner.{SessionOwner}
 use Rattle.blink_owners.specs.MapCodes.{code_of}
-use Rattle.blink_owners.specs.Sessions.{Finds, IsNotFree}
+use Rattle.blink_owners.specs.Sessions.{Finds, IsAway}
 use Rattle.blink_c.proofs.Codes.{on_done, told_why}
 use Rattle.blink_c.proofs.CodesOfMaps.{not_done}
 use Rattle.blink_c.proofs.session.blink_session_find.Goals as goal
@@ -13,5 +13,5 @@ returns-clause-found c zero =
 
 pub returns-clause-refused : goal.returns-clause-refused
 returns-clause-refused c =
-    told_why code_of (IsNotFree c.args.session.now.value.free) c.find.result c.code_of.result c.code_of.ensures
-    (subst (λ (owner : SessionOwner). IfErr c.find.result (IsNotFree owner.free)) c.get.ensures.value c.find.ensures.refused)
+    told_why code_of (IsAway c.args.session.now.value c.find.new.self) c.find.result c.code_of.result c.code_of.ensures
+    (subst (λ (owner : SessionOwner). IfErr c.find.result (IsAway owner c.find.new.self)) c.get.ensures.value c.find.ensures.refused)

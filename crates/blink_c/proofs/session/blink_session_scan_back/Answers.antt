@@ -1,7 +1,7 @@
 use Rattle.std.proofs.Common.{IfErr, subst}
 use Rattle.blink_owners.specs.declared.session_owner.SessionOwner.{SessionOwner}
 use Rattle.blink_owners.specs.MapCodes.{code_of}
-use Rattle.blink_owners.specs.Sessions.{ScansBack, IsNotFree}
+use Rattle.blink_owners.specs.Sessions.{IsAway, ScansBack}
 use Rattle.blink_c.proofs.Codes.{on_done, told_why}
 use Rattle.blink_c.proofs.CodesOfMaps.{not_done}
 use Rattle.blink_c.proofs.session.blink_session_scan_back.Goals as goal
@@ -13,5 +13,5 @@ returns-clause-scanned c zero =
 
 pub returns-clause-refused : goal.returns-clause-refused
 returns-clause-refused c =
-    told_why code_of (IsNotFree c.args.session.now.value.free) c.scan_back.result c.code_of.result c.code_of.ensures
-    (subst (λ (owner : SessionOwner). IfErr c.scan_back.result (IsNotFree owner.free)) c.get.ensures.value c.scan_back.ensures.refused)
+    told_why code_of (IsAway c.args.session.now.value c.scan_back.new.self) c.scan_back.result c.code_of.result c.code_of.ensures
+    (subst (λ (owner : SessionOwner). IfErr c.scan_back.result (IsAway owner c.scan_back.new.self)) c.get.ensures.value c.scan_back.ensures.refused)

@@ -14,6 +14,6 @@ returns-clause-told c zero =
 
 pub returns-clause-refused : goal.returns-clause-refused
 returns-clause-refused c =
-    told_why code_of (IsTellRefusal c.args.from.now.value c.args.to.now.value) c.tell.result c.code_of.result c.code_of.ensures
-    (subst (λ (from : SessionOwner). IfErr c.tell.result (IsTellRefusal from c.args.to.now.value)) c.get.ensures.value
-    (subst (λ (to : SessionOwner). IfErr c.tell.result (IsTellRefusal c.get.result.now to)) c.get-2.ensures.value c.tell.ensures.refused))
+    told_why code_of (IsTellRefusal c.args.from.now.value c.tell.new.self c.args.to.now.value c.tell.new.to) c.tell.result c.code_of.result c.code_of.ensures
+    (subst (λ (from : SessionOwner). IfErr c.tell.result (IsTellRefusal from c.tell.new.self c.args.to.now.value c.tell.new.to)) c.get.ensures.value
+    (subst (λ (to : SessionOwner). IfErr c.tell.result (IsTellRefusal c.get.result.now c.tell.new.self to c.tell.new.to)) c.get-2.ensures.value c.tell.ensures.refused))

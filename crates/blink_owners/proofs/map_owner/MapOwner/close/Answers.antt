@@ -1,6 +1,6 @@
 use Rattle.std.proofs.Common.{subst}
 use Rattle.blink_owners.specs.Maps.{CanClose}
-use Rattle.blink_owners.proofs.MapsStay.{close_fault, never_closed}
+use Rattle.blink_owners.proofs.MapsEnd.{close_fault, never_closed}
 use Rattle.blink_owners.proofs.map_owner.MapOwner.close.Goals as goal
 
 pub returns-in-Ok-try_unwrap-clause-closed : goal.returns-in-Ok-try_unwrap-clause-closed
@@ -9,8 +9,8 @@ returns-in-Ok-try_unwrap-clause-closed c = never_closed c.give.result c.args.sel
 pub returns-in-Ok-try_unwrap-clause-refused : goal.returns-in-Ok-try_unwrap-clause-refused
 returns-in-Ok-try_unwrap-clause-refused c = close_fault c.give.result c.give.ensures.refused
 
-pub returns-in-Settled-clause-closed : goal.returns-in-Settled-clause-closed
-returns-in-Settled-clause-closed c = never_closed c.give-in-Settled.result c.args.self.now.state (subst CanClose c.in-Settled.ensures.value tt) c.give-in-Settled.ensures.refused
+pub returns-in-Unclosed-clause-closed : goal.returns-in-Unclosed-clause-closed
+returns-in-Unclosed-clause-closed c = never_closed c.give-in-Unclosed.result c.args.self.now.state (subst CanClose c.in-Unclosed.ensures.value tt) c.give-in-Unclosed.ensures.refused
 
-pub returns-in-Settled-clause-refused : goal.returns-in-Settled-clause-refused
-returns-in-Settled-clause-refused c = close_fault c.give-in-Settled.result c.give-in-Settled.ensures.refused
+pub returns-in-Unclosed-clause-refused : goal.returns-in-Unclosed-clause-refused
+returns-in-Unclosed-clause-refused c = close_fault c.give-in-Unclosed.result c.give-in-Unclosed.ensures.refused

@@ -1,60 +1,20 @@
-use Rattle.std.proofs.Common.{◌∙◌, refl, sym, subst, ap}
-use Rattle.blink_batch.specs.declared.Op.{Op}
-use Rattle.blink_map.specs.declared.map.Map.{Map}
-use Rattle.blink_owners.specs.declared.shared_map.SharedMap.{SharedMap}
-use Rattle.blink_map.specs.declared.map.Session.{Session}
-use Rattle.blink_map.specs.{HasTried, IsAnswered, IsPendingOf, op_of, session_of}
-use Rattle.blink_owners.specs.Sessions.{IsOfPut, in_map}
-use Rattle.blink_owners.proofs.AnswersOfPuts.{put_answered, put_tried, tried_nothing}
-use Rattle.blink_owners.proofs.SessionsGoOn.{if_err, on_ok}
+use Rattle.std.proofs.Common.{◌∙◌, sym}
+use Rattle.blink_owners.proofs.PutsGoOn.{if_err, not_put_through, not_stepped, on_ok, put_through, tried_by_step}
 use Rattle.blink_owners.proofs.session_owner.SessionOwner.put_on.Goals as goal
 
-pub returns-in-Inserted-clause-ended : goal.returns-in-Inserted-clause-ended
-returns-in-Inserted-clause-ended c =
-    let before = session_of c.args.pending in
-    let op = op_of c.args.pending in
-    let answered = subst (λ (map : Map). IsAnswered map op before c.in-Ok.session c.in-Ok.given) (ap (λ (s : SharedMap). s.map) c.deref.ensures) c.in-Ok.ensures.answered in
-    let put = put_answered (in_map c.args.self.now) c.args.key c.args.pointer op before c.in-Ok.session c.in-Ok.given answered c.requires.of_put c.in-Inserted.is in
-    record {
-      now = c.in-Ok.session;
-      was_there = put.0;
-      is = refl;
-      same = record { same_map = refl; same_number = refl };
-      its_answer = c.of.ensures ∙ put.1;
-      put = put.2;
-    }
-
-pub returns-in-Exists-clause-refused : goal.returns-in-Exists-clause-refused
-returns-in-Exists-clause-refused c =
-    let before = session_of c.args.pending in
-    let op = op_of c.args.pending in
-    let exists = c.in-Exists.is in
-    c.put_over.ensures.refused before (put_tried c.deref.result.now.map c.args.key c.args.pointer op before c.in-Ok.session c.in-Ok.given c.in-Ok.ensures.answered c.requires.of_put (λ is. cc) (λ was is. cc))
-
-pub returns-in_default-clause-ended : goal.returns-in_default-clause-ended
-returns-in_default-clause-ended c =
-    let before = session_of c.args.pending in
-    let tried = put_tried c.deref.result.now.map c.args.key c.args.pointer (op_of c.args.pending) before c.in-Ok.session c.in-Ok.given c.in-Ok.ensures.answered c.requires.of_put
-    (λ is. c.in_default.not-Inserted (sym is)) (λ was is. c.in_default.not-Replaced was (sym is)) in
-    on_ok c.put_new.result (λ has. has before tried) c.put_new.ensures.ended
-
-pub returns-in_default-clause-refused : goal.returns-in_default-clause-refused
-returns-in_default-clause-refused c =
-    let before = session_of c.args.pending in
-    let op = op_of c.args.pending in
-    let answered = subst (λ (shared : SharedMap). IsAnswered shared.map op before c.in-Ok.session c.in-Ok.given) c.deref.ensures c.in-Ok.ensures.answered in
-    let tried = put_tried (in_map c.args.self.now) c.args.key c.args.pointer op before c.in-Ok.session c.in-Ok.given answered c.requires.of_put
-    (λ is. c.in_default.not-Inserted (sym is)) (λ was is. c.in_default.not-Replaced was (sym is)) in
-    if_err c.put_new.result (λ refusal why. why before tried) c.put_new.ensures.refused
-
 pub returns-in-Err-clause-refused : goal.returns-in-Err-clause-refused
-returns-in-Err-clause-refused c =
-    let on = c.in-Err.ensures.goes_on in
-    record {
-      pending = c.in-Err.pending;
-      is = refl;
-      same = record { same_map = refl; same_number = refl };
-      its_own = subst (λ (map : Map). IsPendingOf map c.in-Err.pending) (ap (λ (s : SharedMap). s.map) c.deref.ensures) on.its_own;
-      of_put = subst (λ (op : Op). IsOfPut c.args.key c.args.pointer op) (sym on.same_op) c.requires.of_put;
-      tried = subst (λ (session : Session). HasTried (session_of c.args.pending) session) (sym on.same_session) (tried_nothing (session_of c.args.pending));
-    }
+returns-in-Err-clause-refused c = not_stepped c.args.put c.args.self.now c.step.new.self c.args.self.now.under_way c.in-Err.refusal c.requires.putting c.in-Err.ensures.refused
+
+pub returns-clause-ended : goal.returns-clause-ended
+returns-clause-ended c =
+    let old = c.args.self.now in
+    let mid = c.step.new.self in
+    let seen = tried_by_step c.args.put old mid c.step.new.answer old.under_way c.requires.its_own.its_operation c.requires.putting (sym c.has_put.ensures ∙ c.if-has_put.false) c.in_default.ensures.ended in
+    on_ok c.put_from.result (put_through old mid c.put_from.new.self seen c.args.put.0 c.args.put.1 c.put_from.new.answer) c.put_from.ensures.ended
+
+pub returns-clause-refused : goal.returns-clause-refused
+returns-clause-refused c =
+    let old = c.args.self.now in
+    let mid = c.step.new.self in
+    let seen = tried_by_step c.args.put old mid c.step.new.answer old.under_way c.requires.its_own.its_operation c.requires.putting (sym c.has_put.ensures ∙ c.if-has_put.false) c.in_default.ensures.ended in
+    if_err c.put_from.result (not_put_through old mid c.put_from.new.self seen c.args.put.0 c.args.put.1) c.put_from.ensures.refused
