@@ -17,9 +17,9 @@ struct Turn(AtomicU64);
 /// past. Held guards hold nobody up but who waits for them: the calls on the map go on.
 ///
 /// ```
-/// use blink::{Guards, Index, Map, Room};
+/// use blink::{Guards, Index, Map};
 ///
-/// let map = Map::open(&Index::new(32)?, Room { pages: 22, rows: 100, sessions: 1 })?;
+/// let map = Map::open(&Index::new(32)?)?;
 /// let mut session = map.session()?;
 /// let (guards, mut readers) = Guards::new(2);
 /// let object = Box::into_raw(Box::new(50u64));

@@ -58,6 +58,7 @@
 #![warn(missing_docs)]
 
 mod collection;
+mod dropped;
 mod error;
 mod guards;
 mod index;

@@ -1,11 +1,16 @@
 //! The map.
 
+use crate::dropped::Dropped;
 use crate::session::Session;
 use crate::sys::{self, Handle};
 use crate::waiting::TRIES;
 use crate::{Error, Index};
 use std::fmt;
-use std::sync::{Mutex, MutexGuard, PoisonError};
+use std::sync::{Arc, Mutex, MutexGuard, PoisonError};
+use std::thread;
+
+// How often a close yields for operations that were dropped. Each ends once no session is in a call that has its page.
+const CLOSE_YIELDS: u32 = 1_000;
 
 /// What a map has beside its entries, for changes and sessions to come. [`Room::for_insertions`] and [`Map::with_capacity`] work it out; the
 /// numbers are for a program that knows its keys.
@@ -127,6 +132,8 @@ pub struct Left {
 pub struct Map {
     // One thread at a time uses the handle. Sessions have their own.
     handle: Mutex<Handle>,
+    // Each session has a share of it.
+    dropped: Arc<Dropped>,
 }
 
 // SAFETY: `MapHandle` of crates/blink_c is proved to be `Send`.
@@ -247,7 +254,7 @@ impl Map {
         Error::check(open(&mut handle, &mut place))?;
         // SAFETY: the handle is full, and no other map has this place while this one or a session of it lives.
         unsafe { sys::blink_map_name(&mut handle, place) };
-        Ok(Map { handle: Mutex::new(handle) })
+        Ok(Map { handle: Mutex::new(handle), dropped: Arc::default() })
     }
 
     /// Joins the map. The session has a place until it is dropped. It is refused with [`Error::NoSession`], if each place is taken, and with
@@ -264,10 +271,11 @@ impl Map {
     /// # Ok::<(), Error>(())
     /// ```
     pub fn session(&self) -> Result<Session, Error> {
+        self.dropped.advance(TRIES);
         let mut handle = Handle::EMPTY;
         // SAFETY: the map's handle is full, and locked; `handle` is empty.
         Error::check(unsafe { sys::blink_map_join_alone(&mut *self.lock(), &mut handle) })?;
-        Ok(Session { handle })
+        Ok(Session { handle, dropped: Arc::clone(&self.dropped) })
     }
 
     /// Returns what the map's pool has left, for a look: sessions may draw at any time, and the map may be renewed. What they have drawn and
@@ -309,6 +317,7 @@ impl Map {
     /// # Ok::<(), Error>(())
     /// ```
     pub fn renew(&self, looks: u32) -> Result<(), Error> {
+        self.dropped.advance(TRIES);
         // By a handle of its own, so that threads join the map meanwhile.
         let mut own = Handle::EMPTY;
         // SAFETY: the map's handle is full, and locked; `own` is empty.
@@ -323,11 +332,11 @@ impl Map {
     }
 
     /// Closes the map. The index that it returns has the entries that the map was opened with, after all changes, in as few pages as they
-    /// need. It is refused with [`Error::Missing`], if a session hasn't been dropped; with [`Error::OutOfMemory`]; with [`Error::TooLarge`],
-    /// if the entries need more pages than there are numbers; and with [`Error::Renewing`] only where an [`Unfinished`](crate::Unfinished) that
-    /// was dropped couldn't be ended. Each gives the map back with all its entries, and it can be closed again;
-    /// no session may join any more after the last three. With `?` the map that comes back is dropped, with its entries. A program that may need
-    /// them matches on [`Unclosed`].
+    /// need. An [`Unfinished`](crate::Unfinished) that was dropped is ended before. The close is refused with [`Error::Missing`], if a session
+    /// hasn't been dropped, or such an operation waits for one that is in a call; with [`Error::OutOfMemory`]; and with [`Error::TooLarge`], if
+    /// the entries need more pages than there are numbers. Each gives the map back with all its entries, and it can be closed again; no session
+    /// may join any more after the last two. With `?` the map that comes back is dropped, with its entries. A program that may need them
+    /// matches on [`Unclosed`].
     ///
     /// ```
     /// use blink::{Error, Map};
@@ -342,6 +351,12 @@ impl Map {
     /// # Ok::<(), Error>(())
     /// ```
     pub fn close(self) -> Result<Index, Unclosed> {
+        for _ in 0..CLOSE_YIELDS {
+            if self.dropped.advance(TRIES) {
+                break;
+            }
+            thread::yield_now();
+        }
         let index = Index::filled(|out| {
             // SAFETY: the handle is full, and locked; `out` is empty.
             unsafe { sys::blink_map_close(&mut *self.lock(), out) }

@@ -1,5 +1,6 @@
 //! The session of a map.
 
+use crate::dropped::Dropped;
 use crate::range::{snapshot, LiveRange};
 use crate::steps::{begins, Begun};
 use crate::sys::{self, Code, Handle, RawAnswer, RawEntry, RawScanned, RawTaken};
@@ -7,6 +8,7 @@ use crate::waiting::{ended, renewed, TRIES};
 use crate::{Answer, Error, Op};
 use std::fmt;
 use std::ops::{Bound, Deref, DerefMut, RangeBounds};
+use std::sync::Arc;
 
 /// What a session has of its map's page numbers and rows. They are its own until it is dropped; then the next session at its
 /// place has them.
@@ -48,6 +50,7 @@ pub struct Reserve {
 /// A change that finds the map full waits while another session is [held](Session::hold), so that the map can't be renewed.
 pub struct Session {
     pub(crate) handle: Handle,
+    pub(crate) dropped: Arc<Dropped>,
 }
 
 // SAFETY: `SessionHandle` of crates/blink_c is proved to be `Send`.
@@ -540,7 +543,7 @@ impl Session {
 
     // Begins an operation, and takes its steps to the end.
     fn ended(&mut self, begin: impl FnMut(*mut Handle, u32, *mut RawAnswer) -> Code) -> Result<Answer, Error> {
-        ended(&mut self.handle, begin)
+        ended(&mut self.handle, &self.dropped, begin)
     }
 
     // Takes the entry away that `first` names, one after another until no other session was faster.
@@ -556,8 +559,11 @@ impl Session {
 
 impl Drop for Session {
     fn drop(&mut self) {
-        // SAFETY: the handle is full, and is taken out, so it is freed once.
-        unsafe { sys::blink_session_free(self.handle.take()) }
+        let handle = self.handle.take();
+        if !handle.is_empty() {
+            // SAFETY: the handle is full, and is taken out, so it is freed once.
+            unsafe { sys::blink_session_free(handle) }
+        }
     }
 }
 

@@ -1,6 +1,8 @@
 //! Operations of sessions that go by steps, and wait for nobody.
 
+use crate::dropped::is_under_way;
 use crate::sys::{self, Code, RawAnswer};
+use crate::waiting::TRIES;
 use crate::{Answer, Error, Session};
 
 /// What has become of an operation of a session: it has ended, or it rests; or it was a put, and is refused.
@@ -17,22 +19,32 @@ pub enum Begun {
 /// An operation of a session that has begun and not ended. The session can do nothing else meanwhile. No other session waits for it. The map
 /// isn't renewed before it has ended.
 ///
-/// Dropping it takes the operation to its end, if that doesn't wait long for other sessions. Only a put may be left undone, where the
-/// map has no room for its other half. Else the session is lost, and the map can be neither renewed nor closed any more; the operation has made
-/// its change, or never makes it.
+/// Dropping it takes the operation to its end. Where it has to wait for another session, whoever joins the map, renews or closes it goes on with
+/// it. Only a put may be left undone, where the map has no room for its other half.
 #[derive(Debug)]
 pub struct Unfinished {
-    session: Session,
+    // Taken out by `advance` alone.
+    session: Option<Session>,
 }
 
 impl Unfinished {
     /// Takes the next steps, as [`Session::begin`] does the first ones. It waits for nobody.
-    pub fn advance(self, tries: u32) -> Begun {
-        let mut session = self.session;
+    pub fn advance(mut self, tries: u32) -> Begun {
+        let mut session = self.session.take().expect("a session whose operation is under way");
         let mut answer = RawAnswer::NONE;
         // SAFETY: the handle is full and this call's own; an operation is under way. Nothing is refused but a put.
         let code = unsafe { sys::blink_session_advance(&mut session.handle, tries, &mut answer) };
         begun(session, code, answer)
+    }
+}
+
+impl Drop for Unfinished {
+    fn drop(&mut self) {
+        if let Some(mut session) = self.session.take() {
+            if is_under_way(&mut session.handle, TRIES) {
+                session.dropped.keep(session.handle.take());
+            }
+        }
     }
 }
 
@@ -48,7 +60,7 @@ pub(crate) fn begins(session: Session, code: Code, answer: RawAnswer) -> Result<
 fn begun(session: Session, code: Code, answer: RawAnswer) -> Begun {
     match code {
         0 => Begun::Ended(session, Answer::of(answer)),
-        sys::PENDING => Begun::Resting(Unfinished { session }),
+        sys::PENDING => Begun::Resting(Unfinished { session: Some(session) }),
         code => Begun::Refused(session, Error::of(code)),
     }
 }

@@ -3,6 +3,7 @@
 //! [`Pass::insert`](crate::Pass::insert), [`Session::insert`](crate::Session::insert) and their like wait so. The calls that wait for nobody
 //! take the number of their tries from the caller.
 
+use crate::dropped::Dropped;
 use crate::sys::{self, Code, Handle, RawAnswer};
 use crate::{Answer, Error};
 use std::thread;
@@ -16,8 +17,12 @@ pub(crate) const TRIES: u32 = 100;
 pub(crate) const MOST_TRIES: u32 = 1_000_000;
 
 /// Begins an operation of a session, and takes its steps to the end. It begins again where the session's rows were on their way back, and where
-/// the map was being renewed or couldn't be, with more tries then. The handle is full, and a session's.
-pub(crate) fn ended(handle: &mut Handle, mut begin: impl FnMut(*mut Handle, u32, *mut RawAnswer) -> Code) -> Result<Answer, Error> {
+/// the map was being renewed or couldn't be, with more tries then. The handle is full, and a session's; the others are of its map.
+pub(crate) fn ended(
+    handle: &mut Handle,
+    dropped: &Dropped,
+    mut begin: impl FnMut(*mut Handle, u32, *mut RawAnswer) -> Code,
+) -> Result<Answer, Error> {
     let mut answer = RawAnswer::NONE;
     let mut tries = TRIES;
     let mut code = begin(handle, tries, &mut answer);
@@ -27,6 +32,8 @@ pub(crate) fn ended(handle: &mut Handle, mut begin: impl FnMut(*mut Handle, u32,
             sys::PENDING => unsafe { sys::blink_session_advance(handle, TRIES, &mut answer) },
             sys::ROWS_BUSY => begin(handle, tries, &mut answer),
             sys::RENEWING => {
+                // Such an operation keeps the map from being renewed.
+                dropped.advance(TRIES);
                 tries = (10 * tries).min(MOST_TRIES);
                 begin(handle, tries, &mut answer)
             }

@@ -2,7 +2,6 @@
 
 use blink::{Answer, Begun, Error, Index, Left, Map, Op, Room, Session, Reserve};
 use std::collections::BTreeMap;
-use std::sync::Arc;
 use std::thread::{self, JoinHandle};
 
 fn map_over(index: &Index, pages: u32, rows: u32, sessions: u32) -> Map {
@@ -200,19 +199,18 @@ fn one_session_uses_nearly_all_page_numbers() {
     }
 }
 
-// Sessions draw by turns from one pool. Each number that no page has is a session's still or the pool's, and neither has 22.
+// Sessions draw by turns from one pool. Of the numbers that no page has neither has 22, so that all others were used.
 #[test]
 fn sessions_that_draw_by_turns_lose_no_page_number() {
     for (pages, count) in [(3_000, 8), (20_000, 256)] {
         let map = map_over(&Index::new(4).unwrap(), pages, 2 * pages + 300 * count, count);
         let mut sessions: Vec<Session> = (0..count).map(|_| map.session().unwrap()).collect();
-        fill(&mut sessions);
+        let filled = fill(&mut sessions);
         let kept: Vec<u64> = sessions.iter_mut().map(|session| session.reserve().pages).collect();
         let pool = map.room().unwrap().pages;
         assert!(pool < 22 && kept.iter().all(|&left| left < 22), "{pool} {kept:?}");
         drop(sessions);
-        let used = u64::from(map.close().unwrap().pages()) - 1;
-        assert_eq!(used + pool + kept.iter().sum::<u64>(), u64::from(pages));
+        assert_eq!(map.close().unwrap().len() as u64, filled);
     }
 }
 
@@ -491,7 +489,7 @@ fn each_of_256_sessions_finds_its_part_of_the_room() {
 }
 
 // A thread that outlives the call, with a session that owns a share of the map.
-fn fills(map: &Arc<Map>, from: u64) -> JoinHandle<Session> {
+fn fills(map: &Map, from: u64) -> JoinHandle<Session> {
     let mut session = map.session().unwrap();
     thread::spawn(move || {
         (from..from + 100).for_each(|key| assert_eq!(session.insert(key, 10 * key), Ok(Answer::Inserted)));
@@ -501,10 +499,12 @@ fn fills(map: &Arc<Map>, from: u64) -> JoinHandle<Session> {
 
 #[test]
 fn a_session_that_owns_a_share_keeps_its_map() {
-    let map = Arc::new(map_over(&Index::new(8).unwrap(), 500, 2_000, 2));
+    let map = map_over(&Index::new(8).unwrap(), 500, 2_000, 2);
     let mut sessions: Vec<_> = [fills(&map, 0), fills(&map, 100)].map(|thread| thread.join().unwrap()).into();
     assert_eq!(map.session().unwrap_err(), Error::NoSession);
-    let map = Arc::try_unwrap(map).expect_err("two sessions have a share");
+    let unclosed = map.close().unwrap_err();
+    assert_eq!(unclosed.error, Error::Missing);
+    let map = unclosed.map;
     let mut last = sessions.pop().unwrap();
     drop(sessions);
     // the share of the session that is left keeps the map
