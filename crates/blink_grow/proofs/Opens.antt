@@ -1,6 +1,7 @@
 -- Sessions are laid into slots, and dealt.
 use Rattle.std.proofs.Common.{◌≡◌, ℕ, zero, suc, ◌+◌, ◌-◌, ◌<◌, Option, Some, None, List, [], ◌∷◌, ◌++◌, ◌≤◌, ◌⊎◌, length, drop, take, get_or, length-append, refl, sym, ap, ◌∙◌, subst, ⊎_elim, inl, inr, arith}
-use Rattle.std.specs.Prelude.{slice_index_or, All}
+use Rattle.std.specs.Prelude.{slice_index_or, All, reverse}
+use Rattle.std.proofs.lemmas.List.{reverse-append}
 use mathlib.Core.Option.{some, some-injective, some-ne-none}
 use mathlib.Core.Logic.{dite}
 use native.Mathlib.Decide.{ℕ_discrete}
@@ -55,21 +56,19 @@ first_dealt map sessions dealt place session is =
     let same : slice_index_or sessions place session ≡ session = at_place sessions place session session is in
     subst (IsFirst map place) same record { its_own = record { member = one.its_own }; its_place = one.its_place; none_seen = one.none_seen; none_made = one.none_made }
 
-behind_one : {A : Type 0} (l : List A) (k : ℕ) (a : A) → get_elem? (drop 1 l) k ≡ some a → get_elem? l (suc k) ≡ some a
-behind_one [] k a e = absurd (some-ne-none a (sym e))
-behind_one (x ∷ xs) k a e = e
+-- the one that is taken from the end of a list that lies the other way round
+popped_order : {A : Type 0} (old new : List A) (last : A) → old ≡ new ++ last ∷ [] → reverse old ≡ last ∷ reverse new
+popped_order old new last is = ap reverse is ∙ reverse-append new (last ∷ [])
 
-pub first_from_next : (map : Map) (from : ℕ) (old new : List MapSession) → new ≡ drop 1 old → AreFirstFrom map from old → AreFirstFrom map (from + 1) new
-first_from_next map from old new is are k session e =
-    let same : from + suc k ≡ from + 1 + k = omega arith in
-    subst (λ (n : ℕ). IsFirst map n session) same (are (suc k) session (behind_one old k session (ap (λ (l : List MapSession). get_elem? l k) (sym is) ∙ e)))
-
--- the first of them
-pub first_of_them : (map : Map) (from : ℕ) (old : List MapSession) (session : MapSession) → 0 < length old → session ≡ slice_index_or old 0 session → AreFirstFrom map from old → IsFirst map from session
-first_of_them map from [] session there is are = absurd (omega (arith, there))
-first_of_them map from (x ∷ xs) session there is are =
+pub popped_first : (map : Map) (from : ℕ) (old new : List MapSession) (session : MapSession) → old ≡ new ++ session ∷ [] → AreFirstFrom map from (reverse old) → IsFirst map from session
+popped_first map from old new session is are =
     let same : from + 0 ≡ from = omega arith in
-    subst (λ (n : ℕ). IsFirst map n session) same (are 0 session (ap some (sym is)))
+    subst (λ (n : ℕ). IsFirst map n session) same (are 0 session (ap (λ (l : List MapSession). get_elem? l 0) (popped_order old new session is)))
+
+pub first_from_popped : (map : Map) (from : ℕ) (old new : List MapSession) (session : MapSession) → old ≡ new ++ session ∷ [] → AreFirstFrom map from (reverse old) → AreFirstFrom map (from + 1) (reverse new)
+first_from_popped map from old new session is are k one e =
+    let same : from + suc k ≡ from + 1 + k = omega arith in
+    subst (λ (n : ℕ). IsFirst map n one) same (are (suc k) one (ap (λ (l : List MapSession). get_elem? l (suc k)) (popped_order old new session is) ∙ e))
 
 -- one more slot is laid
 pub laid_more : (map : Map) (slots : List (Option Current)) (held : Current) → AreLaid map slots → IsFirstIn map (length slots) held → AreLaid map (slots ++ Some held ∷ [])
@@ -153,16 +152,15 @@ the_one map copier old session inside is are =
     let one = there_is old copier inside in
     subst (IsFirst map copier) (sym (is ∙ at_place old copier one.0 session one.1)) (are copier one.0 one.1)
 
-pub first_behind_next : (map : Map) (copier from : ℕ) (old new : List MapSession) → new ≡ drop 1 old → AreFirstBehind map copier from old → AreFirstBehind map copier (from + 1) new
-first_behind_next map copier from old new is are k session e =
-    let same : from + suc k ≡ from + 1 + k = omega arith in
-    subst (λ (n : ℕ). IsFirst map (slot_behind copier n) session) same (are (suc k) session (behind_one old k session (ap (λ (l : List MapSession). get_elem? l k) (sym is) ∙ e)))
-
-pub first_behind : (map : Map) (copier from : ℕ) (old : List MapSession) (session : MapSession) → 0 < length old → session ≡ slice_index_or old 0 session → AreFirstBehind map copier from old → IsFirst map (slot_behind copier from) session
-first_behind map copier from [] session there is are = absurd (omega (arith, there))
-first_behind map copier from (x ∷ xs) session there is are =
+pub popped_behind : (map : Map) (copier from : ℕ) (old new : List MapSession) (session : MapSession) → old ≡ new ++ session ∷ [] → AreFirstBehind map copier from (reverse old) → IsFirst map (slot_behind copier from) session
+popped_behind map copier from old new session is are =
     let same : from + 0 ≡ from = omega arith in
-    subst (λ (n : ℕ). IsFirst map (slot_behind copier n) session) same (are 0 session (ap some (sym is)))
+    subst (λ (n : ℕ). IsFirst map (slot_behind copier n) session) same (are 0 session (ap (λ (l : List MapSession). get_elem? l 0) (popped_order old new session is)))
+
+pub first_behind_popped : (map : Map) (copier from : ℕ) (old new : List MapSession) (session : MapSession) → old ≡ new ++ session ∷ [] → AreFirstBehind map copier from (reverse old) → AreFirstBehind map copier (from + 1) (reverse new)
+first_behind_popped map copier from old new session is are k one e =
+    let same : from + suc k ≡ from + 1 + k = omega arith in
+    subst (λ (n : ℕ). IsFirst map (slot_behind copier n) one) same (are (suc k) one (ap (λ (l : List MapSession). get_elem? l (suc k)) (popped_order old new session is) ∙ e))
 
 pub one_more_held : (map : Map) (copier : ℕ) (others : List Current) (held : Current) → AreOthersIn map copier others → IsFirstIn map (slot_behind copier (length others)) held → AreOthersIn map copier (others ++ held ∷ [])
 one_more_held map copier others held those its k other is = ⊎_elim

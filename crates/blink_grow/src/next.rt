@@ -96,10 +96,10 @@ fn hold(
 {
     let first = sessions.remove(copier);
     let lead = hold_one(map, first, number)?;
-    let count = sessions.len();
-    let mut others = Vec::with_capacity(alloc, count)?;
-    for _slot in 0..count {
-        let session = sessions.remove(0);
+    let mut others = Vec::with_capacity(alloc, sessions.len())?;
+    // They are taken from the end, so that none of the others moves.
+    sessions.reverse();
+    while let Some(session) = sessions.pop() {
         let held = hold_one(map, session, number)?;
         others.push_reserved(held);
     }

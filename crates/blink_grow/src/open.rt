@@ -267,8 +267,9 @@ fn lay(
     ensures width { IfOk result (λ slots. length slots.items ≡ length sessions.items) }
 {
     let mut slots = Vec::new(alloc);
-    for _slot in 0..sessions.len() {
-        let session = sessions.remove(0);
+    // They are taken from the end, so that none of the others moves.
+    sessions.reverse();
+    while let Some(session) = sessions.pop() {
         let owner = Arc::try_clone(map)?;
         let held = Current {
             map: owner,
