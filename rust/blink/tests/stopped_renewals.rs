@@ -72,7 +72,7 @@ fn a_map_is_renewed_beside_an_insertion_that_is_stopped_anywhere() {
     // The leaf is full, so the insertion splits it.
     let inserted = [(1, 10), (2, 20), (3, 30), (4, 40), (5, 50)];
     let after = |instructions| renews_after(instructions, |session| session.insert(5, 50), &Ok(Answer::Inserted), &inserted);
-    is_held_up_once(&(0..100_000).step_by(101).map_while(after).collect::<Vec<_>>());
+    is_held_up_once(&(0..100_000).step_by(23).map_while(after).collect::<Vec<_>>());
 }
 
 // Begins a replacement after so many instructions of another one of the key. Returns whether it rests then; none, if the first has fewer. Both
