@@ -12,6 +12,12 @@ use blink_operation::Op;
 // As many buckets as a full batch has operations, so that few keys share a bucket.
 const BUCKETS: usize = BATCH_LIMIT;
 
+// 2 ^ 64 over the golden ratio.
+const MULTIPLIER: u64 = 0x9E37_79B9_7F4A_7C15;
+
+// Of a product's 64 bits the upper 13 are left, which tell `BUCKETS` buckets apart.
+const BUCKET_SHIFT: u32 = 51;
+
 /// For each key so far the place of its last operation. The table has a fixed size, so it takes no memory from the heap. Each
 /// bucket's places make a chain, the last first.
 #[derive(Drop)]
@@ -66,12 +72,12 @@ impl LastPlaces {
     }
 }
 
-// The bucket of a key: the upper bits of its product with 2 ^ 64 over the golden ratio (Fibonacci hashing), so that keys at
-// equal distances don't crowd into few buckets. These are 13 bits, and the table has a bucket for each value of them.
+// The bucket of a key: the upper bits of its product with `MULTIPLIER` (Fibonacci hashing), so that keys at equal distances don't
+// crowd into few buckets.
 #[tactic(auto, unfolding(crate::specs::LastPlaces::bucket_of))]
 fn bucket(key: u64) -> usize
     ensures value { result ≡ bucket_of key }
     ensures below { result < BUCKETS }
 {
-    (key.wrapping_mul(0x9E37_79B9_7F4A_7C15) >> 51) as usize
+    (key.wrapping_mul(MULTIPLIER) >> BUCKET_SHIFT) as usize
 }

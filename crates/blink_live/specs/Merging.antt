@@ -47,6 +47,10 @@ abbrev pub IsBelowRecords : ℕ → List Record → Type 0
 IsBelowRecords key [] = Unit {0}
 IsBelowRecords key (r ∷ rest) = key < r.key
 
+-- the key of the first of these records, where there is one
+abbrev pub IsKeyOfFirst : List Record → ℕ → Type 0
+IsKeyOfFirst records key = (r : Record) (rest : List Record) → records ≡ r ∷ rest → key ≡ r.key
+
 -- the least key of these entries and records, and the pointer that it has; those behind it are left
 pub data IsNext (entries : List (ℕ × ℕ)) (records : List Record) (key : ℕ) (kept : Option ℕ) (entries_left : List (ℕ × ℕ)) (records_left : List Record) : Type 0 where
   entry_alone : (pointer : ℕ) → entries ≡ (key, pointer) ∷ entries_left → kept ≡ Some pointer → records_left ≡ records → IsBelowRecords key records

@@ -6,17 +6,16 @@
 //! has been split since; then the scan descends again. The load of the leaf's page word tells the seat the state of each of the leaf's
 //! keys, and nobody stores to the row that it names while the scan reads there. So the entries of one leaf are those of one time;
 //! those of the leaf to the right are of a later one.
-ghost use Rattle.std.specs.Prelude.{◌≡◌, ◌+◌, ◌<◌, ◌≤◌, ◌∷◌, ℕ, List, Option, IfSome, length, take, drop};
+ghost use Rattle.std.specs.Prelude.{◌≡◌, ◌+◌, ◌<◌, ◌≤◌, ℕ, List, Option, IfSome, length, take, drop};
 ghost use Rattle.blink_batch.specs.declared.Entry.{Entry};
 ghost use Rattle.blink_page.specs.{PlainPage};
 ghost use Rattle.blink_page.specs.declared.limits.TheConstants.{MAX_FAN};
 ghost use Rattle.blink_rows.specs.{row_in};
 ghost use Rattle.blink_rows.specs.declared.limits.TheConstants.{ROW_WORDS};
-ghost use Rattle.blink_rows.specs.declared.log.Record.{Record};
 ghost use Rattle.blink_live.specs.Along.{GoesAlong, IsNotedLeaf};
 ghost use Rattle.blink_live.specs.Finding.{HasSearched, IsIdle};
 ghost use Rattle.blink_live.specs.Handles.{IsPassOf, IsSameBesideSeen, KnowsItsKeys, keys_of, opening_of, seen_of, share_of};
-ghost use Rattle.blink_live.specs.Merging.{AreNewest, HasMerged};
+ghost use Rattle.blink_live.specs.Merging.{AreNewest, HasMerged, IsKeyOfFirst};
 ghost use Rattle.blink_live.specs.Scanning.{HasScanned, IsCopied, IsFilled, IsReport, ReportLaw, SaysOfKeys, StoppedFull, stop_of};
 ghost use Rattle.blink_live.specs.Seats.{HasSameNumber, HasStates, IsPassSeat, IsSameSeat, ReadsLeaf, ReadsPage};
 ghost use Rattle.blink_live.specs.Views.{known_of};
@@ -442,7 +441,7 @@ impl Live {
 
 // The key of the record at this place, or the greatest key behind the last record.
 fn bound_at(records: &[Record], place: usize) -> u64
-    ensures { (r : Record) (rest : List Record) → drop place records.now ≡ r ∷ rest → result ≡ r.key }
+    ensures { IsKeyOfFirst (drop place records.now) result }
 {
     if place < records.len() {
         return records[place].key;

@@ -249,7 +249,8 @@ impl Live {
     ) -> Copied
         requires seat { IsPassSeat self.now seat.old.table_id seat.old.me }
         requires inside { parts.now.start + ROW_WORDS ≤ word_count self.now.counts }
-        requires few { (copied.walk.entries ≤ MAX_FAN) × (copied.walk.records ≤ length parts.now.newest.now) }
+        requires few { copied.walk.entries ≤ MAX_FAN }
+        requires few_newer { copied.walk.records ≤ length parts.now.newest.now }
         ensures same { IsSameSeat seat.old seat.new }
         ensures records { result.walk.records ≡ copied.walk.records }
         ensures passed { result.walk.entries ≤ copied.walk.entries }

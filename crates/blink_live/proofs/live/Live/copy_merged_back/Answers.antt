@@ -31,7 +31,7 @@ copy_run_back-copied-requires-clause-few c =
     let reads = c.requires.leaf.2 in
     let count = c.load_word.ensures.word c.args.row (page_words c.requires.leaf.0) c.row_place-start.ensures.start reads.reads (omega arith) in
     let few = reads.lawful.at_most_fan in
-    (omega (arith, count, few), omega arith)
+    omega (arith, count, few)
 
 pub loop-met-init : goal.loop-met-init
 loop-met-init c =

@@ -1,6 +1,6 @@
 use Rattle.std.proofs.Common.{◌≤◌}
 use Rattle.blink_page.specs.{PlainPage}
-use Rattle.blink_rows.proofs.LogContent.{IsLeft}
+use Rattle.blink_rows.proofs.Offered.{IsLeft}
 use Rattle.blink_live.specs.Seats.{IsSameSeat, ReadsVersion}
 use Rattle.blink_live.proofs.live.Live.newest.Given as goal
 
