@@ -8,9 +8,7 @@ use Rattle.std.proofs.lemmas.List.Elements.{filter-append}
 use Rattle.blink_operation.specs.declared.Entry.{Entry}
 use Rattle.blink_operation.specs.{entry}
 use Rattle.blink_page.specs.{IsRising, Rises, place_of}
-use Rattle.blink_page.proofs.RisingKeys.{rising_rises}
-use Rattle.blink_page.proofs.Offered.{from_at_most_to, IsRising-append}
-use Rattle.blink_page.proofs.WhereSearchesEnd.{rising_get}
+use Rattle.blink_page.proofs.Offered.{rising_rises, from_at_most_to, IsRising-append, rising_get}
 use Rattle.blink_rest.specs.{entries_from}
 use Rattle.std.specs.Iterator.{YieldsFirst}
 use Rattle.std.proofs.iter.runs.Sources.{from_front, as_is}

@@ -10,7 +10,7 @@ use Rattle.blink_live.proofs.Offered.{prefix_of_prefix}
 use Rattle.blink_grow.specs.declared.growing.GrowingMap.{GrowingMap}
 use Rattle.blink_grow.specs.declared.growing.Session.{Session}
 use Rattle.blink_grow.specs.{HasSameSlot, IsAnswered, IsSessionOf, made_by, opening_of, place_of, places_of, seen_by}
-use Rattle.blink_map_client.proofs.TwoInsert.{InsertsAfter}
+use Rattle.blink_map_client.proofs.Offered.{InsertsAfter}
 
 -- it has seen its own changes
 pub saw_own : (session : Session) → made_at (place_of session) (seen_by session) ≡ made_by session

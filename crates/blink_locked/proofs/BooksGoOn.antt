@@ -8,11 +8,9 @@ use Rattle.blink_batch.specs.declared.Op.{Op}
 use Rattle.blink_batch.specs.{Assignment, IsLawfulCut}
 use Rattle.blink_store.specs.{PlainStore}
 use Rattle.blink_machine.specs.declared.step.Step.{Step}
-use Rattle.blink_steps.proofs.worlds.RunAtItsEnd.{IsDone, no_turn_yet}
+use Rattle.blink_steps.proofs.Offered.{IsDone, no_turn_yet, fan_stays, pages_stay_few}
 use Rattle.blink_steps.specs.{HasMoved, IsIdleWorker, HasAnswerAt, IsPromised, KeepsItsPromises, PlainRun, Event, PlainWorld, GoesOnBy, HasEnded, IsAtLanesEnd, IsStart, IsWorldOf, SameBatch}
 use Rattle.blink_locked.specs.Book.{AllMoved, HasEndedOp, IsBook}
-use Rattle.blink_steps.proofs.worlds.FanStays.{fan_stays}
-use Rattle.blink_steps.proofs.worlds.PagesStayFew.{pages_stay_few}
 use Rattle.blink_locked.specs.Run.{HasFewPagesMore, IsSettled}
 
 -- ---- the book's beginning

@@ -15,3 +15,4 @@ mod MembersDealt
 pub mod PutsAreChanges
 mod HostRests
 mod EndsOfReports
+pub mod Offered

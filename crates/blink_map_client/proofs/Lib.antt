@@ -7,3 +7,4 @@ mod RaisesAdd
 mod SessionsRaise
 mod TriesToRaise
 mod TwoRaise
+pub mod Offered

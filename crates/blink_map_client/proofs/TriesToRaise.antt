@@ -13,7 +13,7 @@ use Rattle.blink_live.proofs.Offered.{prefix_of_prefix}
 use Rattle.blink_map.specs.declared.map.Map.{Map}
 use Rattle.blink_map.specs.declared.map.Session.{Session}
 use Rattle.blink_map.specs.{HasTried, IsAnswered, IsSameBesideSeen, LacksRoomInAll, WasAbsent, change_to, opening_of, place_of, seen_by}
-use Rattle.blink_map.proofs.PutsAreChanges.{put_so, put_then, tried, tried_twice}
+use Rattle.blink_map.proofs.Offered.{put_so, put_then, tried, tried_twice}
 use Rattle.blink_map_client.specs.declared.counter.NotRaised.{NotRaised}
 use Rattle.blink_map_client.specs.declared.counter.NotRaised.TheVariants.{Absent, Greatest, Full}
 use Rattle.blink_map_client.specs.Counting.{CannotRaise, IsRaisedTo, IsRaiseTried, LacksRoomToRaise}

@@ -6,7 +6,7 @@ use Rattle.std.proofs.Crossing as heap
 use Rattle.std.proofs.Crossing.{crosses}
 use Rattle.atomic_table.proofs.shared.Seat.TheSendSync as seat
 use Rattle.blink_map.proofs.map.Map.TheSendSync as map
-use Rattle.blink_map.proofs.PendingsAreSent.{pending_send}
+use Rattle.blink_map.proofs.Offered.{pending_send}
 use Rattle.blink_grow.proofs.growing.Session.TheSendSync as session
 use Rattle.blink_grow.proofs.growing.Unclosed.TheSendSync as unclosed
 use Rattle.blink_grow.proofs.held.Held.TheSendSync as held

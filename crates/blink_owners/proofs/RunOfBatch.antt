@@ -13,8 +13,7 @@ use Rattle.blink_owners.specs.declared.raw.RawAnswer.{RawAnswer}
 use Rattle.blink_owners.specs.declared.raw.RawOperation.{RawOperation}
 use Rattle.blink_owners.specs.Raw.{AreOperations, op_of, raw_answer, raw_given}
 use Rattle.blink_owners.specs.Runs.{HasPagesFor, HasRunToEnd}
-use Rattle.blink_steps.proofs.worlds.FanStays.{fan_stays}
-use Rattle.blink_steps.proofs.worlds.PagesStayFew.{pages_stay_few}
+use Rattle.blink_steps.proofs.Offered.{fan_stays, pages_stay_few}
 
 pub run_done : (before : PlainStore) (ops : List Op) (assignment : Assignment) (first last : PlainWorld) → IsStart before ops assignment first
     → IsLawfulCut ops assignment.workers assignment.lanes → KeepsItsStart first last → SameBatch first.run last.run → IsPromised last → HasEnded last.run

@@ -10,7 +10,7 @@ use Rattle.blink_steps.specs.{IsPromised, Event, PlainWorld, HasEnded, IsStart, 
 use Rattle.blink_replay.specs.Replay.{IsRunToEnd, RunsBatch, by_residue}
 use Rattle.blink_settings.specs.{lanes_by_residue}
 use Rattle.blink_replay.specs.Trace.{trace_of}
-use Rattle.blink_steps.proofs.worlds.RunAtItsEnd.{IsDone, all_some, no_turn_yet}
+use Rattle.blink_steps.proofs.Offered.{IsDone, all_some, no_turn_yet}
 
 -- each operation of a run at its end has its answer
 pub all_answered : (start : PlainStore) (world : PlainWorld) → IsWorldOf start world → IsPromised world → HasEnded world.run → length world.run.outcome.answers ≡ length world.run.ops

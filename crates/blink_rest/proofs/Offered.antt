@@ -11,12 +11,12 @@ pub use Rattle.blink_rest.proofs.DifferentNumbers.{among_append, among_from_Cont
 pub use Rattle.blink_rest.proofs.HowManyNumbers.{at_most_n}
 -- the numbers of a chain's pages
 pub use Rattle.blink_rest.proofs.PagesOfChainsDiffer.{standing, stands_among, chain_differs, levels_differ}
-pub use Rattle.blink_rest.proofs.NoPageLeftOut.{cells_within}
+pub use Rattle.blink_rest.proofs.NoPageLeftOut.{cells_within, levels_at_most}
 pub use Rattle.blink_rest.proofs.WalkAlongLevel.{walked_within, store_numbered}
 -- why levels are few: an inner page has two entries at least
 pub use Rattle.blink_rest.proofs.FewLevels.{two_to, two_each}
 -- there are no two cells, chains or lists of entries where there is one
-pub use Rattle.blink_rest.proofs.OneListOfLevels.{same_cell, same_entries}
+pub use Rattle.blink_rest.proofs.OneListOfLevels.{same_cell, same_entries, same_chain}
 pub use Rattle.blink_rest.proofs.PagesReached.{only_page}
 -- a search in a tree at rest goes down from the root
 pub use Rattle.blink_rest.proofs.LeafOfKey.{root_at_end}

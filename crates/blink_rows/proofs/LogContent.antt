@@ -6,9 +6,7 @@ use Rattle.blink_page.specs.declared.limits.TheConstants.{GREATEST_KEY}
 use Rattle.blink_page.specs.declared.search.Way.{Way}
 use Rattle.blink_page.specs.declared.search.Way.TheVariants.{Right, Down, Here}
 use Rattle.blink_page.specs.{IsKeyOf, IsLawfulPage, Leads, PlainPage, added, least_above, value_at, with_entries}
-use Rattle.blink_page.proofs.ChangedEntries.{length-added}
-use Rattle.blink_page.proofs.LawfulPages.{lawful_with_room, lawful_removed, lawful_replaced, lawful_added}
-use Rattle.blink_page.proofs.LookUps.{value_at-below, value_at-above, value_at-added, value_at-added_other, value_at-removed, value_at-removed_other, value_at-replaced, value_at-replaced_other}
+use Rattle.blink_page.proofs.Offered.{length-added, lawful_with_room, lawful_removed, lawful_replaced, lawful_added, value_at-below, value_at-above, value_at-added, value_at-added_other, value_at-removed, value_at-removed_other, value_at-replaced, value_at-replaced_other}
 use Rattle.blink_rows.specs.declared.log.Kind.{Kind}
 use Rattle.blink_rows.specs.declared.log.Kind.TheVariants.{Replaced, Added, Removed}
 use Rattle.blink_rows.specs.declared.log.Record.{Record}

@@ -19,6 +19,6 @@ pub use Rattle.blink_rows.proofs.LogContent.{AreSilent, value_here, value_elsewh
 -- a walk from the oldest record to the newest, and a search from the newest to the oldest
 pub use Rattle.blink_rows.proofs.LogContent.{StandsAt, stands_at, next_fits, next_page, more_fit, IsLeft, HasNext, all_left, next_left, passes_next, next_says, none_left}
 -- where the words of a base and of its records stand
-pub use Rattle.blink_rows.proofs.LogWords.{length-log_words, length-row_words, row_words-none, row_words-more, base_stands, begins_with_base, count_read, entry_stands, key_stands, pointer_stands, record_inside, read_record, begins_more}
+pub use Rattle.blink_rows.proofs.LogWords.{length-log_words, length-row_words, row_words-none, row_words-more, base_stands, begins_with_base, count_read, entry_stands, key_stands, pointer_stands, record_inside, read_record, begins_more, log_words-append}
 -- room for a log, and that words tell one
 pub use Rattle.blink_rows.proofs.LogWords.{logged_none, logged_more, one_base, one_log, one_page}

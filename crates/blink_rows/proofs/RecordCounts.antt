@@ -6,7 +6,7 @@ use Rattle.std.proofs.Math.Nat.{zero-mul}
 use Rattle.std.specs.Int.Bits.{bit_and}
 use Rattle.std.specs.Int.Count.{ones}
 use Rattle.blink_page.specs.{PlainPage}
-use Rattle.blink_page.proofs.ChangedEntries.{length-added, length-removed, length-replaced}
+use Rattle.blink_page.proofs.Offered.{length-added, length-removed, length-replaced}
 use Rattle.blink_rows.specs.declared.limits.TheConstants.{KIND_LIMIT, MAX_RECORDS, RECORD_LIMIT, ROW_LIMIT}
 use Rattle.blink_rows.specs.declared.log.Kind.{Kind}
 use Rattle.blink_rows.specs.declared.log.Kind.TheVariants.{Replaced, Added, Removed}

@@ -1,3 +1,4 @@
 pub mod runs
 pub mod bounds
 pub mod worlds
+pub mod Offered

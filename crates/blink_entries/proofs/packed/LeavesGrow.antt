@@ -4,9 +4,7 @@ use Rattle.std.proofs.Math.Nat.{mul-le-mul_right}
 use Rattle.std.proofs.lemmas.Bool.{cases_lt}
 use Rattle.blink_page.specs.{IsFan, IsLawfulPage, IsPageNumber, IsRising, PlainPage, last_key, last_key_or, least_above, next_key, with_entries}
 use Rattle.blink_page.specs.declared.limits.TheConstants.{GREATEST_KEY, MAX_PAGE}
-use Rattle.blink_page.proofs.RisingKeys.{IsRising-append, length-rising, next_at_most_to, next_key-last, rising_rest, rising_to_next}
-use Rattle.blink_page.proofs.ChangedEntries.{ValuesWithin-append}
-use Rattle.blink_page.proofs.LawfulPages.{lawful_leaf}
+use Rattle.blink_page.proofs.Offered.{IsRising-append, length-rising, next_at_most_to, next_key-last, rising_rest, rising_to_next, ValuesWithin-append, lawful_leaf}
 use Rattle.blink_rest.specs.{InLine, entries_along}
 use Rattle.blink_rest.specs.Chain.{Cell, cell}
 use Rattle.blink_rest.proofs.Offered.{InLine-append}

@@ -6,8 +6,7 @@ use Rattle.std.proofs.lemmas.List.{length-map}
 use Rattle.blink_page.specs.declared.limits.TheConstants.{GREATEST_KEY}
 use Rattle.blink_rest.specs.{AreChains, AreEntries, AreLevels, EachIsParent, InLine, IsParentOf, IsStoreAtRest, Pages, TopHasOne, entries_along, numbers_of}
 use Rattle.blink_rest.specs.Chain.{Cell}
-use Rattle.blink_rest.proofs.NoPageLeftOut.{levels_at_most}
-use Rattle.blink_rest.proofs.Offered.{same_entries, store_numbered}
+use Rattle.blink_rest.proofs.Offered.{levels_at_most, same_entries, store_numbered}
 use Rattle.blink_store.specs.{PlainStore, page_of}
 use Rattle.blink_entries.specs.Packed.{AreFewest, NeedsPages}
 use Rattle.blink_entries.proofs.packed.FewestPages.{sum-cons}

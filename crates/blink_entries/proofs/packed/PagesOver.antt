@@ -5,8 +5,7 @@ use Rattle.std.proofs.Math.Seq.{take-suc}
 use Rattle.std.proofs.lemmas.List.{length-map, length-take-le}
 use Rattle.blink_page.specs.{Covers, IsLawfulPage, IsPageNumber, PlainPage, ValuesWithin, least_above}
 use Rattle.blink_page.specs.declared.limits.TheConstants.{GREATEST_KEY, MAX_LEVEL, MAX_PAGE}
-use Rattle.blink_page.proofs.ChangedEntries.{values_wider}
-use Rattle.blink_page.proofs.RisingKeys.{covers_rising, length-rising}
+use Rattle.blink_page.proofs.Offered.{values_wider, covers_rising, length-rising}
 use Rattle.blink_rest.specs.{InLine, IsParentOf, entries_along, floor_after, high_keys, names_for, numbers_of}
 use Rattle.blink_rest.specs.Chain.{Cell, link_after}
 use Rattle.blink_rest.proofs.Offered.{InLine-prefix, InLine-rest}

@@ -5,7 +5,7 @@ use Rattle.std.proofs.lemmas.List.{length-map, take_all}
 use Rattle.blink_operation.specs.declared.Entry.{Entry}
 use Rattle.blink_operation.specs.{IsAscending}
 use Rattle.blink_page.specs.{IsRising, Rises}
-use Rattle.blink_page.proofs.RisingKeys.{IsRising-append, rising_rises}
+use Rattle.blink_page.proofs.Offered.{IsRising-append, rising_rises}
 use Rattle.blink_rest.specs.{pairs_of}
 use Rattle.blink_rest.proofs.Offered.{ascending_from, entries_from-pairs_of}
 

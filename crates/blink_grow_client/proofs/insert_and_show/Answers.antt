@@ -6,7 +6,7 @@ use Rattle.blink_live.specs.{after}
 use Rattle.blink_live.proofs.Offered.{prefix_of_prefix}
 use Rattle.blink_map.specs.{change_to}
 use Rattle.blink_grow.specs.{opening_of, place_of, seen_by}
-use Rattle.blink_map_client.proofs.EntryIsShown.{goes_on_with, insertion_made, still_there}
+use Rattle.blink_map_client.proofs.Offered.{goes_on_with, insertion_made, still_there}
 use Rattle.blink_grow_client.proofs.insert_and_show.Goals as goal
 
 pub returns-clause-shown : goal.returns-clause-shown

@@ -9,7 +9,7 @@ use Rattle.blink_grow.specs.declared.growing.GrowingMap.{GrowingMap}
 use Rattle.blink_grow.specs.declared.growing.Session.{Session}
 use Rattle.blink_grow.specs.{IsSessionOf, made_by, opening_of, place_of, places_of, seen_by}
 use Rattle.blink_grow_client.specs.declared.NotInserted.{NotInserted}
-use Rattle.blink_map_client.proofs.TwoInsert.{one_of_two}
+use Rattle.blink_map_client.proofs.Offered.{one_of_two}
 use Rattle.blink_grow_client.proofs.SessionsKnow.{authors_in, inserts, place_inside, saw_own, seen_on, still_its}
 use Rattle.blink_grow_client.proofs.insert_by_two.Goals as goal
 

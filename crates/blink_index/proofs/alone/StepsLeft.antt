@@ -19,8 +19,7 @@ use Rattle.blink_machine.specs.Invariant.{Invariant}
 use Rattle.blink_machine.specs.Places.{keys_from_floor}
 use Rattle.blink_machine.specs.Table.{SeesOnItsWay, SeesUnderLatch}
 use Rattle.blink_machine.specs.TreeState.{TreeState}
-use Rattle.blink_machine.proofs.operation.OperationIsPlaced.{at_state}
-use Rattle.blink_machine.proofs.Offered.{descent_bound_falls, page_is_readable, step_law}
+use Rattle.blink_machine.proofs.Offered.{at_state, descent_bound_falls, page_is_readable, step_law}
 
 -- how many keys there are
 abbrev pub KEYS : ℕ

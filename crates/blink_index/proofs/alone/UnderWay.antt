@@ -19,8 +19,7 @@ use Rattle.blink_machine.specs.declared.machine.State.TheVariants.{SplitNew, Roo
 use Rattle.blink_machine.specs.declared.step.Step.TheVariants.{Moved}
 use Rattle.blink_machine.specs.{Decides, IsInOrder, IsItsOperation, PlainMachine, PrimeOut, UsesUp, WaitsForLevel, deciding, fresh, goes_on, latch_of, need_at, numbers_left, one_if, other, page_out, taken_on, under_way, writes_new_page}
 use Rattle.blink_machine.specs.Invariant.{Invariant}
-use Rattle.blink_machine.proofs.Offered.{goes_on_if_needed, has_answer_at_end, never_stuck, step_law, tree_laws}
-use Rattle.blink_machine.proofs.tree_state.InvariantStatements.{IsWaiting}
+use Rattle.blink_machine.proofs.Offered.{goes_on_if_needed, has_answer_at_end, never_stuck, step_law, tree_laws, IsWaiting}
 use Rattle.blink_index.specs.Drive.{ActsOn, CanActOn}
 use Rattle.blink_index.specs.Edit.{IsEdited}
 use Rattle.blink_entries.specs.Index.{map_of}

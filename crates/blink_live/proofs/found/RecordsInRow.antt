@@ -10,9 +10,7 @@ use Rattle.blink_rows.specs.declared.log.Kind.{Kind}
 use Rattle.blink_rows.specs.declared.log.Kind.TheVariants.{Replaced}
 use Rattle.blink_rows.specs.declared.log.Record.{Record}
 use Rattle.blink_rows.specs.declared.naming.Records.{Records}
-use Rattle.blink_rows.proofs.LogContent.{HasNext, fits_next, next_says, own_key, page_more}
-use Rattle.blink_rows.proofs.LogWords.{length-log_words, length-row_words, log_words-append}
-use Rattle.blink_rows.proofs.Offered.{length-page_words}
+use Rattle.blink_rows.proofs.Offered.{HasNext, fits_next, next_says, own_key, page_more, length-log_words, length-row_words, log_words-append, length-page_words}
 use Rattle.blink_live.specs.Seats.{IsSaid, ReadsVersion}
 use Rattle.blink_live.specs.Views.{SeatState}
 use Rattle.blink_live.specs.Words.{row_start}

@@ -2,8 +2,7 @@
 use Rattle.std.proofs.Common.{◌≡◌, ℕ, ◌+◌, ◌<◌, ◌≤◌, ◌==◌, if◌then◌else◌, Bool, true, false, Option, Some, None, List, [], ◌∷◌, refl, sym, ap, ◌∙◌, subst, arith}
 use Rattle.std.proofs.lemmas.Bool.Decides.{nat_tests}
 use Rattle.blink_page.specs.{IsRising, value_at}
-use Rattle.blink_page.proofs.LookUps.{value_at-below}
-use Rattle.blink_page.proofs.Offered.{from_at_most_to}
+use Rattle.blink_page.proofs.Offered.{value_at-below, from_at_most_to}
 use Rattle.blink_rows.specs.{pointer_after}
 use Rattle.blink_rows.specs.declared.log.Record.{Record}
 use Rattle.blink_live.specs.Merging.{IsBelowEntries, IsBelowRecords, IsMerging, IsNext, RecordsRise, entry_alone, in_both, record_alone, told}

@@ -5,7 +5,7 @@ use Rattle.blink_batch.specs.declared.Entry.{Entry}
 use Rattle.blink_batch.specs.{pointer_of}
 use Rattle.blink_page.specs.{PlainPage, IsKeyOf, value_at}
 use Rattle.blink_rest.specs.{AreEntries, IsMember, Pages}
-use Rattle.blink_rest.proofs.OneListOfLevels.{same_chain}
+use Rattle.blink_rest.proofs.Offered.{same_chain}
 use Rattle.blink_machine.specs.declared.machine.Job.{Job}
 use Rattle.blink_machine.specs.declared.machine.Job.TheVariants.{Leaf, Parent}
 use Rattle.blink_machine.specs.declared.machine.State.{State}
@@ -17,11 +17,7 @@ use Rattle.blink_machine.specs.Invariant.{Invariant}
 use Rattle.blink_machine.specs.Owned.{unlinked_at, unlinked_of}
 use Rattle.blink_machine.specs.TreeState.{TreeState}
 use Rattle.blink_machine.specs.TreeWithDebts.{IsInChain, IsUnlinked}
-use Rattle.blink_machine.proofs.Offered.{tree_laws}
-use Rattle.blink_machine.proofs.operation.OperationIsPlaced.{at_state}
-use Rattle.blink_machine.proofs.tree.PrimeAsList.{leftmost_of}
-use Rattle.blink_machine.proofs.tree_state.EntriesOfATree.{pointer_in_leaf}
-use Rattle.blink_machine.proofs.tree_state.WhoseOperation.{has_by, turns, was_other}
+use Rattle.blink_machine.proofs.Offered.{tree_laws, at_state, leftmost_of, pointer_in_leaf, has_by, turns, was_other}
 use Rattle.blink_live.specs.Looks.{IsLeafInChain, TellsAll}
 
 -- ---- what is unlinked after a write

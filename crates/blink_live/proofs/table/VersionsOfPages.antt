@@ -6,8 +6,7 @@ use Rattle.blink_rows.specs.{Fits, IsLogged, counted, log_words, page_after, pag
 use Rattle.blink_rows.specs.declared.limits.TheConstants.{HEAD_WORDS, MAX_RECORDS, ROW_LIMIT, ROW_WORDS}
 use Rattle.blink_rows.specs.declared.log.Record.{Record}
 use Rattle.blink_rows.specs.declared.naming.Records.{Records}
-use Rattle.blink_rows.proofs.LogWords.{log_words-append}
-use Rattle.blink_rows.proofs.Offered.{inner_has_none, logged_more, logged_none, no_records_of_row, page_more, word_of_log}
+use Rattle.blink_rows.proofs.Offered.{log_words-append, inner_has_none, logged_more, logged_none, no_records_of_row, page_more, word_of_log}
 use Rattle.blink_live.specs.Words.{IsVersion}
 
 -- the row that a word names is one that a page word has room for

@@ -13,7 +13,7 @@ use Rattle.blink_steps.specs.Acts.{PlainShared, ActsOn, Acts}
 use Rattle.blink_machine.specs.{primes_for, primes_left, one_if, is_page_read, PlainMachine, need_at, MayChange, IsPlaced, Levels}
 use Rattle.blink_steps.specs.StepBounds.{page_on_way}
 use Rattle.blink_machine.specs.TreeState.{TreeState}
-use Rattle.blink_machine.proofs.operation.PlacedWhateverBefore.{placed_at}
+use Rattle.blink_machine.proofs.Offered.{placed_at}
 
 -- a find doesn't latch: it posts nothing, since it may never write the prime block
 find_changes_none : (m : PlainMachine) (key : ℕ) → primes_left m ≤ primes_for Leaf m.op → m.op ≡ Find key → (number : ℕ) → m.state ≡ Held number → MayChange m.op m.job → ⊥

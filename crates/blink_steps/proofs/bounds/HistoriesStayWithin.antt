@@ -19,7 +19,7 @@ use Rattle.blink_machine.specs.{numbers_for, UsesUp, PlainMachine, goes_on, pair
 use Rattle.blink_steps.specs.Counts.{takes_number, numbers_in, moves_in}
 use Rattle.blink_steps.specs.Run.{PlainRun, Event, AppliesEvent, IsHistory, IsOpeningRun, after_move, seat_after, idle_seat, tree_state_of}
 use Rattle.blink_steps.specs.RunInvariant.{RunInvariant, WorkerInvariant}
-use Rattle.blink_machine.proofs.law.EachPart.{step_law}
+use Rattle.blink_machine.proofs.Offered.{step_law}
 use Rattle.blink_steps.proofs.runs.OperationOfTurn.{move_is_step, next_is_its}
 use Rattle.blink_steps.proofs.bounds.CountsOfOperations.{IsWithin, IsLimited, IsInsertAt, IsCounted, IsKnown, next_is_known}
 use Rattle.blink_steps.proofs.bounds.MovesStayWithin.{is_moving_turn, is_write_turn, is_prime_turn, own_within, other_within, within_is_limited, other_limited, numbers_for_inserts, next_after, working_is_after}

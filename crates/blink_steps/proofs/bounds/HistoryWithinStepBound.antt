@@ -10,7 +10,7 @@ use Rattle.blink_steps.specs.Bounds.{IsBounded}
 use Rattle.blink_steps.specs.Run.{PlainRun, Event}
 use Rattle.blink_steps.proofs.bounds.MetPages.{IsAny, at_most_all}
 use Rattle.blink_steps.proofs.runs.RunStatements.{OpeningRunHasInvariant, TurnKeepsRunInvariant, HistoryIsBounded, HistoryWithinStepBound}
-use Rattle.blink_machine.proofs.tree.TreeStatements.{TreeLaws}
+use Rattle.blink_machine.proofs.Offered.{TreeLaws}
 use Rattle.blink_steps.proofs.bounds.TurnsAddedUp.{turns_are_of_places, turns_at_most, count_of_pairs}
 use Rattle.blink_steps.proofs.bounds.StepBoundsStay.{IsWalked, walked_along}
 

@@ -13,7 +13,7 @@ use Rattle.blink_machine.specs.declared.step.Step.TheVariants.{Moved}
 use Rattle.blink_machine.specs.{one_if, numbers_for, numbers_left, writes_for, writes_left, primes_for, primes_left, UsesUp, has_moved, moved_by, writes_new_page, is_page_write, is_prime_write, PlainMachine, goes_on}
 use Rattle.blink_steps.specs.Counts.{takes_number, numbers_in, page_writes_in, prime_writes_in}
 use Rattle.blink_steps.specs.Run.{Event, seat_after}
-use Rattle.blink_machine.proofs.law.EachPart.{step_law}
+use Rattle.blink_machine.proofs.Offered.{step_law}
 use Rattle.blink_steps.proofs.bounds.CountsOfOperations.{IsWithin, IsLimited}
 use Rattle.blink_steps.proofs.bounds.CountedTurns.{turns_of-own, turns_of-other}
 

@@ -6,8 +6,7 @@ use Rattle.blink_rest.specs.Chain.{Cell}
 use Rattle.blink_machine.specs.{PlainMachine, target, StandsAt, BeginsFurther, InvariantWith, Levels}
 use Rattle.blink_machine.specs.TreeState.{TreeState}
 use Rattle.blink_steps.proofs.bounds.MetPages.{ArePagesWith, ComesAfter, IsPassed, IsBelow, IsUpTo, IsNotAbove, pages_wider}
-use Rattle.blink_machine.proofs.tree.TreeStatements.{TreeLaws}
-use Rattle.blink_machine.proofs.operation.WhereMovesLead.{IsOnLevel, stands_on, page_of_cell, belongs_here}
+use Rattle.blink_machine.proofs.Offered.{TreeLaws, IsOnLevel, stands_on, page_of_cell, belongs_here}
 
 module _ (laws : TreeLaws) (tree_state : TreeState) (levels : Levels) (invariant : InvariantWith tree_state levels) where
   -- the leftmost page of a level is on it

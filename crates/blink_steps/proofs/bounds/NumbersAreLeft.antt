@@ -13,7 +13,7 @@ use Rattle.blink_machine.specs.declared.machine.Job.TheVariants.{Leaf}
 use Rattle.blink_machine.specs.{one_if, numbers_for, numbers_left}
 use Rattle.blink_steps.specs.Counts.{numbers_in, moves_in, takes_number, begun_inserts}
 use Rattle.blink_steps.specs.Run.{PlainRun, Event, tree_state_of}
-use Rattle.blink_machine.proofs.law.EachPart.{step_law}
+use Rattle.blink_machine.proofs.Offered.{step_law}
 use Rattle.blink_steps.proofs.runs.OperationOfTurn.{next_is_its}
 use Rattle.blink_steps.proofs.runs.RunStatements.{OpeningRunHasInvariant, TurnKeepsRunInvariant, HistoryIsBounded, NumberIsLeft, CountsAreOf}
 use Rattle.blink_steps.proofs.bounds.CountedTurns.{numbers_in-few}

@@ -11,11 +11,9 @@ use Rattle.blink_steps.specs.StepBounds.{page_on_way, page_to_latch}
 use Rattle.blink_machine.specs.{PlainMachine, level_of, IsPlaced, InvariantWith, SeesPrime, SeesPage, SeesOnItsWay, SeesUnderLatch, Levels}
 use Rattle.blink_machine.specs.TreeState.{TreeState}
 use Rattle.blink_steps.proofs.bounds.MetPages.{ArePagesWith, IsNotAbove, pages_wider}
-use Rattle.blink_machine.proofs.operation.PlacedWhateverBefore.{placed_at}
+use Rattle.blink_machine.proofs.Offered.{placed_at, TreeLaws, last_at, level_here, right_is_further}
 use Rattle.blink_steps.proofs.bounds.NextPageComesAfter.{leftmost_on, child_is_lower, passed_right, passed_down, below_right, not_above, comes_after_lower}
 use Rattle.blink_steps.proofs.bounds.OperationTracks.{OnWayAt, LatchedAt, IsUnder, open_at, others_at, IsOnTrack, on_track}
-use Rattle.blink_machine.proofs.tree.TreeStatements.{TreeLaws}
-use Rattle.blink_machine.proofs.operation.WhereMovesLead.{last_at, level_here, right_is_further}
 
 -- after a step from this state an operation is on its track, with the page that it has read or latched by it
 abbrev pub GoesOnTrack : Pages → State → PlainMachine → List ℕ → List ℕ → ℕ → Type 0

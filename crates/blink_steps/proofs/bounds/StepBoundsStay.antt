@@ -26,15 +26,13 @@ use Rattle.blink_steps.proofs.bounds.HistoriesStayWithin.{InvariantAndCounts, co
 use Rattle.blink_steps.proofs.bounds.CountsOfOperations.{IsCounted, IsKnown, next_is_known}
 use Rattle.blink_steps.proofs.bounds.MovesStayWithin.{working_is_after}
 use Rattle.blink_steps.proofs.bounds.FindsReadOnTheirWay.{find_reads_on_way}
-use Rattle.blink_machine.proofs.operation.PlacedWhateverBefore.{its_place}
+use Rattle.blink_machine.proofs.Offered.{its_place, step_law, TreeLaws}
 use Rattle.blink_steps.proofs.bounds.OperationTracks.{track_stays, fresh_on_track}
-use Rattle.blink_machine.proofs.law.EachPart.{step_law}
 use Rattle.blink_steps.proofs.runs.OperationOfTurn.{machines_of, move_is_step, next_is_its}
 use Rattle.blink_steps.proofs.runs.RunStatements.{MayBegin, OpeningRunHasInvariant, TurnKeepsRunInvariant}
 use Rattle.blink_steps.proofs.bounds.MovesKeepStepBounds.{WithinStepBoundAt, IsTracked, own_track, other_track, rest_track, own_short, other_short, rest_short, short_stays}
 use Rattle.blink_steps.proofs.bounds.ReadsKeepTrack.{GoesOnTrack}
 use Rattle.blink_steps.proofs.bounds.StepsKeepTrack.{step_tracks}
-use Rattle.blink_machine.proofs.tree.TreeStatements.{TreeLaws}
 use Rattle.blink_steps.proofs.bounds.CountedTurns.{turns_of-other, turns_of-unlike}
 use Rattle.blink_steps.proofs.bounds.PagesOfTurns.{no_pages}
 

@@ -14,14 +14,10 @@ use Rattle.blink_machine.specs.{PlainMachine, need_at, IsItsOperation, debt_at, 
 use Rattle.blink_machine.specs.TreeState.{TreeState}
 use Rattle.blink_steps.specs.Run.{tree_state_with}
 use Rattle.blink_steps.proofs.bounds.MetPages.{IsNotAbove, pages_wider}
-use Rattle.blink_machine.proofs.operation.WhereMovesLead.{stands_on}
-use Rattle.blink_machine.proofs.operation.PlacedWhateverBefore.{placed_at, its_place}
+use Rattle.blink_machine.proofs.Offered.{stands_on, placed_at, its_place, its_own, decided_parts, TreeLaws}
 use Rattle.blink_steps.proofs.bounds.NextPageComesAfter.{latched_up_to, comes_after_lower}
 use Rattle.blink_steps.proofs.bounds.OperationTracks.{IsUnder, IsOnTrack, on_track}
-use Rattle.blink_machine.proofs.operation.OperationIsPlaced.{its_own}
-use Rattle.blink_machine.proofs.law.AllowanceIsUsedUp.{decided_parts}
 use Rattle.blink_steps.proofs.bounds.ReadsKeepTrack.{GoesOnTrack, track_at, sees_prime_tracks, sees_page_tracks}
-use Rattle.blink_machine.proofs.tree.TreeStatements.{TreeLaws}
 
 module _ (laws : TreeLaws) (tree_state : TreeState) (levels : Levels) (invariant : InvariantWith tree_state levels) (worker : ℕ) (m : PlainMachine) (its : IsItsOperation tree_state worker m)
     (words : FitsWords m.op) (reads latched : List ℕ) (moves : ℕ) (track : IsOnTrack tree_state.pages m reads latched moves) where

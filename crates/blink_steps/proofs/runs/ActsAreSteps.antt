@@ -10,7 +10,7 @@ use Rattle.blink_machine.specs.declared.step.Step.TheVariants.{Moved, Waited}
 use Rattle.blink_steps.specs.Acts.{PlainShared, Acts, ActsOn}
 use Rattle.blink_machine.specs.{PlainMachine, need_at, Leaves, WritesOne, LatchPasses, IsWorkersNow, Steps, reads_prime, waits_for_level, reads_page, latches, waits_for_latch, writes_new, writes_page, writes_prime, unlatches}
 use Rattle.blink_steps.specs.Run.{tree_state_with}
-use Rattle.blink_machine.proofs.operation.WhatJobsAreAbout.{some_value}
+use Rattle.blink_machine.proofs.Offered.{some_value}
 
 -- where nothing shared changes, the tree state keeps all but its operations
 same_leaves : (old new : PlainShared) (machines after_machines : ℕ → Option PlainMachine) → new ≡ old → Leaves (tree_state_with old machines) (tree_state_with new after_machines)

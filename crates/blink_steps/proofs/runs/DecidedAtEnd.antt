@@ -19,7 +19,7 @@ use Rattle.blink_steps.specs.Run.{PlainRun, idle_seat, machine_of_seat, tree_sta
 use Rattle.blink_steps.specs.RunInvariant.{HasDecided, IdleInvariant, RunInvariant, WorkerInvariant, decided_below}
 use Rattle.blink_steps.specs.Decided.{AnswersSoFar}
 use Rattle.blink_machine.specs.StepLaw.{StepLaw}
-use Rattle.blink_machine.proofs.tree.NumbersApart.{contains_or_not, filter-take, holds_at_passing, holds_of_both, holds_of_filter, one_index, AllDiffer-filter, AllDiffer-take}
+use Rattle.blink_machine.proofs.Offered.{contains_or_not, filter-take, holds_at_passing, holds_of_both, holds_of_filter, one_index, AllDiffer-filter, AllDiffer-take}
 use Rattle.blink_steps.proofs.runs.RunStatements.{EachHasItsTurn, EachIsDecidedOnce, EndedRunIsWhole, PrefixesAreDecided, HasAnswerAt, HasEnded, OneLatchEach}
 
 -- ---- prefixes

@@ -1,7 +1,6 @@
 -- The laws of runs, each proved.
 use Rattle.blink_steps.proofs.runs.RunStatements.{RunLaws}
-use Rattle.blink_machine.proofs.tree.TreeLaws.{tree_laws}
-use Rattle.blink_machine.proofs.law.EachPart.{step_law}
+use Rattle.blink_machine.proofs.Offered.{tree_laws, step_law}
 use Rattle.blink_steps.proofs.runs.TurnsKeepRunInvariant.{turn_keeps_run_invariant}
 use Rattle.blink_steps.proofs.runs.OpeningRunHasInvariant.{opening_run_has_invariant}
 use Rattle.blink_steps.proofs.runs.TurnIsReady.{turn_is_ready}

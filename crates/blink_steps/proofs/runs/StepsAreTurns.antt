@@ -25,7 +25,7 @@ use Rattle.blink_steps.specs.Run.{PlainRun, IsNextOf, moves, waits, after_move, 
 use Rattle.blink_machine.specs.Invariant.{Invariant}
 use Rattle.blink_steps.specs.RunInvariant.{RunInvariant}
 use Rattle.blink_steps.proofs.runs.OperationOfTurn.{machines_of, next_has_seat, next_is_busy, next_is_its, seats_after_move}
-use Rattle.blink_machine.proofs.law.EachPart.{step_law}
+use Rattle.blink_machine.proofs.Offered.{step_law}
 use Rattle.blink_steps.proofs.worlds.WorldPromises.{invariant}
 
 -- ---- what is the same

@@ -26,7 +26,7 @@ use Rattle.blink_steps.proofs.runs.OperationOfTurn.{machines_of, move_is_step, n
 use Rattle.blink_steps.proofs.runs.RunStatements.{TurnKeepsRunInvariant}
 use Rattle.blink_steps.proofs.runs.MovesKeepStore.{move_keeps_lawful}
 use Rattle.blink_machine.specs.StepLaw.{StepLaw}
-use Rattle.blink_machine.proofs.operation.OperationStaysItself.{StaysItself, step_stays}
+use Rattle.blink_machine.proofs.Offered.{StaysItself, step_stays}
 
 -- an operation goes on unless it has ended
 ends_or_goes_on : (m : PlainMachine) (state : State) → ((state ≡ Ended) × (goes_on m state ≡ None)) ⊎ ((state ≢ Ended) × (goes_on m state ≡ Some m))

@@ -10,11 +10,9 @@ use Rattle.blink_machine.specs.declared.step.Step.{Step}
 use Rattle.blink_machine.specs.{Steps, pairs_of}
 use Rattle.blink_steps.specs.Run.{tree_state_of}
 use Rattle.blink_machine.specs.StepLaw.{StepLaw}
-use Rattle.blink_machine.proofs.tree.EntriesAsMap.{value_at-pairs_of}
-use Rattle.blink_machine.proofs.tree_state.EntriesOfATree.{pointer_in_leaf}
+use Rattle.blink_machine.proofs.Offered.{value_at-pairs_of, pointer_in_leaf, TreeLaws}
 use Rattle.blink_steps.proofs.runs.OperationOfTurn.{turn_is_step, next_is_busy}
 use Rattle.blink_steps.proofs.runs.RunStatements.{NextIsUnanswered, PresentIsReached, WritesAreOwn}
-use Rattle.blink_machine.proofs.tree.TreeStatements.{TreeLaws}
 
 -- an operation without an answer has none at its place
 pub next_is_unanswered : NextIsUnanswered

@@ -16,10 +16,8 @@ use Rattle.blink_steps.specs.Pick.{IsFirstMover, WouldMove}
 use Rattle.blink_steps.specs.Run.{PlainRun, busy_seat, idle_seat, machine_of_seat, tree_state_of}
 use Rattle.blink_steps.specs.RunInvariant.{RunInvariant}
 use Rattle.blink_steps.specs.World.{HasEnded}
-use Rattle.blink_machine.proofs.law.NeverStuck.{never_stuck}
+use Rattle.blink_machine.proofs.Offered.{never_stuck, IsWaiting, tree_laws}
 use Rattle.blink_steps.proofs.worlds.WorkersBySeat.{idle_never_waits, one_seat, only_next}
-use Rattle.blink_machine.proofs.tree_state.InvariantStatements.{IsWaiting}
-use Rattle.blink_machine.proofs.tree.TreeLaws.{tree_laws}
 
 module _ (run : PlainRun) where
   -- a step that is a wait waits for a latch that another holds, or for a level that isn't there

@@ -1,6 +1,6 @@
 use Rattle.std.proofs.Common.{◌≡◌, ◌+◌, ◌<◌, ◌++◌, [], length, eqb-true, ap, sym, subst, ◌∙◌, arith}
 use Rattle.blink_page.specs.{PlainPage, Rises, least_above}
-use Rattle.blink_page.proofs.RisingKeys.{rising_rises}
+use Rattle.blink_page.proofs.Offered.{rising_rises}
 use Rattle.blink_rest.specs.{entries_from}
 use Rattle.blink_entries.specs.Scan.{entries_after, entries_to}
 use Rattle.blink_entries.proofs.WhereLinksLead.{empty_of, no_link_no_entry}

@@ -2,7 +2,7 @@ use Rattle.std.proofs.Common.{ap, ◌∙◌, subst, sym}
 use Rattle.blink_index.specs.{map_of}
 use Rattle.blink_store.specs.{PlainStore}
 use Rattle.blink_locked.specs.Run.{HasFewPagesMore, IsReplayed, IsSettled}
-use Rattle.blink_steps.proofs.worlds.RunAtItsEnd.{one_thread_answers, one_thread_map}
+use Rattle.blink_steps.proofs.Offered.{one_thread_answers, one_thread_map}
 use Rattle.blink_locked.proofs.BooksGoOn.{settled_done}
 use Rattle.blink_locked.proofs.run.run_locked.Goals as goal
 

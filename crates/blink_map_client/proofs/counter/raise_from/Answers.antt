@@ -1,7 +1,7 @@
 use Rattle.std.proofs.Common.{◌+◌, sym, subst}
 use Rattle.blink_batch.specs.declared.Op.TheVariants.{Exchange}
 use Rattle.blink_map.specs.{IsAnswered}
-use Rattle.blink_map.proofs.PutsAreChanges.{tried_in_vain}
+use Rattle.blink_map.proofs.Offered.{tried_in_vain}
 use Rattle.blink_map_client.proofs.TriesToRaise.{lacks_room, raised_by_exchange, tried_to_exchange}
 use Rattle.blink_map_client.proofs.counter.raise_from.Goals as goal
 

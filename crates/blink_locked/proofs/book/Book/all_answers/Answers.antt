@@ -2,7 +2,7 @@ use Rattle.std.proofs.Common.{All, IfOk, IsSome, List, Option, Some, length, map
 use Rattle.blink_batch.specs.declared.Answer.{Answer}
 use Rattle.blink_locked.specs.Book.{PlainBook}
 use Rattle.blink_steps.specs.{HasEnded}
-use Rattle.blink_steps.proofs.worlds.RunAtItsEnd.{all_some}
+use Rattle.blink_steps.proofs.Offered.{all_some}
 use Rattle.blink_locked.proofs.book.Book.all_answers.Goals as goal
 
 pub all_of-requires : goal.all_of-requires

@@ -3,7 +3,7 @@ use Rattle.blink_batch.specs.declared.Answer.{Answer}
 use Rattle.blink_batch.specs.{Assignment, text_of}
 use Rattle.blink_index.specs.{map_of}
 use Rattle.blink_replay.proofs.ReplayOfBatch.{at_rest_before, replay_done, runs_batch}
-use Rattle.blink_steps.proofs.worlds.RunAtItsEnd.{IsDone, one_thread_answers, one_thread_map}
+use Rattle.blink_steps.proofs.Offered.{IsDone, one_thread_answers, one_thread_map}
 use Rattle.blink_replay.proofs.replay.Replay.run_batch.Goals as goal
 
 -- the schedule's numbers are workers of the world
