@@ -9,8 +9,7 @@ use Rattle.blink_batch.proofs.Offered.{next_place_is}
 use Rattle.blink_machine.specs.{fresh}
 use Rattle.blink_steps.specs.{IsIdleWorker, WouldMove, WouldWait, IsPromised, IsNextOf, PlainRun, idle_seat, IdleInvariant, IsWorld, PlainWorld}
 use Rattle.blink_steps.specs.RunInvariant.{RunInvariant}
-use Rattle.blink_steps.proofs.runs.WhatRunsPromise.{next_is_unanswered}
-use Rattle.blink_steps.proofs.worlds.WorldPromises.{invariant}
+use Rattle.blink_steps.proofs.Offered.{next_is_unanswered, invariant}
 use Rattle.blink_show.specs.Draw.{LeavesUndecided}
 
 -- an idle worker whose lane goes on leaves an operation undecided

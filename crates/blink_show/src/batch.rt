@@ -5,42 +5,39 @@ ghost use Rattle.blink_replay.specs.{IsPartsFault};
 ghost use Rattle.blink_show.specs.Batch.{AddsBatch, ops_from};
 ghost use Rattle.blink_show.specs.AskedTurns.{AreOfWorkers, ShowsAsked};
 
-use crate::frame::Shown;
-use crate::turns::{Turns, show_finish, show_first, show_turns};
+use crate::frame::Film;
+use crate::turns::{Asked, show_finish, show_turns};
 use crate::words::push_op;
 use blink_batch::{Batch, Op};
 use blink_index::Index;
 use blink_replay::lanes_by_residue;
 use blink_settings::ServeError;
 use blink_steps::World;
-use std::alloc::{AllocError, Global};
+use std::alloc::AllocError;
 use std::fmt::Write as _;
 
 /// Runs a batch, cut by the remainders of its keys, over an index: the turns asked for, and then picked turns to the end. It
 /// adds the batch's operations to the text, and then a frame for the first tree state and one for each turn.
 pub(crate) fn show_batch(
-    alloc: Global,
+    film: &mut Film,
     index: Index,
     batch: Batch,
-    workers: u8,
-    turns: Turns<'_>,
-    text: &mut String,
+    asked: Asked<'_>,
 ) -> Result<(), ServeError>
-    requires allowed { MayWork workers }
-    requires workers { AreOfWorkers workers turns }
+    requires { AreOfWorkers asked.settings.now.workers asked.turns }
     ensures shown { OnOk result
-        (AddsBatch workers (ShowsAsked turns.entry) index batch
-        (string_bytes text.old) (string_bytes text.new)) }
+        (AddsBatch asked.entry.settings.now.workers (ShowsAsked asked.entry.turns) index batch
+        (string_bytes film.old.text) (string_bytes film.new.text)) }
     ensures refused { IfErr result IsPartsFault }
 {
-    push_ops(text, batch.ops(), workers)?;
-    let lanes = lanes_by_residue(alloc, &batch, workers)?;
-    let owners = lanes.lanes().to_vec(alloc)?;
-    let mut world = World::start(alloc, index.into_rest(), batch, lanes)?;
-    let mut shown = Shown::nothing(alloc);
-    show_first(alloc, &world, &mut shown, text)?;
-    show_turns(alloc, &mut world, turns, &owners, &mut shown, text)?;
-    show_finish(alloc, &mut world, &mut shown, text)?;
+    let workers = asked.settings.workers();
+    push_ops(&mut film.text, batch.ops(), workers)?;
+    let lanes = lanes_by_residue(film.alloc, &batch, workers)?;
+    let owners = lanes.lanes().to_vec(film.alloc)?;
+    let mut world = World::start(film.alloc, index.into_rest(), batch, lanes)?;
+    film.first(&world)?;
+    show_turns(film, &mut world, asked.turns, &owners)?;
+    show_finish(film, &mut world)?;
     Ok(())
 }
 

@@ -1,13 +1,13 @@
 //! A script's replay, written to be looked at.
 ghost use Rattle.std.specs.Prelude.{◌≡◌, ◌++◌, ◌↔◌, Err, IfErr, IfOk, OnOk, MatchOption, count_by, string_bytes};
-ghost use Rattle.blink_batch.specs.{MayWork};
 ghost use Rattle.blink_replay.specs.{WritesText, is_batch, IsPartsFault, TellsReplayFault, TellsWorkersFault};
 ghost use Rattle.blink_steps.specs.{IsFirstNoWorker};
 ghost use Rattle.blink_show.specs.Show.{AddsParts, IsLastBatch, IsSeedText, IsShowText, IsTextOf, LeavesShow};
 ghost use Rattle.blink_show.specs.AskedTurns.{AreOfWorkers, ShowsAsked};
 
 use crate::batch::show_batch;
-use crate::turns::Turns;
+use crate::frame::Film;
+use crate::turns::{Asked, Turns};
 use blink_batch::{Batch, Part, read_script};
 use blink_index::Index;
 use blink_replay::{first_of_no_worker, new_index, run_parts, write_replay};
@@ -57,14 +57,10 @@ pub fn serve_show<R: Read, W: Write>(
 {
     match first_of_no_worker(schedule, settings.workers()) {
         Some(worker) => Err(ServeError::Step(StepError::NoWorker(worker))),
-        None => show_script(
-            alloc,
-            reader,
-            writer,
-            settings,
-            Turns::Schedule(schedule),
-            template,
-        ),
+        None => {
+            let turns = Turns::Schedule(schedule);
+            show_script(alloc, reader, writer, Asked { settings, turns }, template)
+        }
     }
 }
 
@@ -89,69 +85,61 @@ pub fn serve_seed<R: Read, W: Write>(
         settings.now.workers settings.now.fan seed)
         (R.remaining reader.old) error (W.contents writer.old) (W.contents writer.new)) }
 {
-    show_script(alloc, reader, writer, settings, Turns::Seed(seed), template)
+    let turns = Turns::Seed(seed);
+    show_script(alloc, reader, writer, Asked { settings, turns }, template)
 }
 
-// Shows the script by the turns asked for, if each number of a schedule is a worker.
+// Shows the script as asked for, if each number of a schedule is a worker.
 fn show_script<R: Read, W: Write>(
     alloc: Global,
     reader: &mut R,
     writer: &mut W,
-    settings: &Settings,
-    turns: Turns<'_>,
+    asked: Asked<'_>,
     template: Template<'_>,
 ) -> Result<(), ServeError>
-    requires { AreOfWorkers settings.now.workers turns }
+    requires { AreOfWorkers asked.settings.now.workers asked.turns }
     ensures shown { OnOk result (WritesText
-        (IsTextOf template.entry.head.now template.entry.tail.now
-        settings.now.workers settings.now.fan (ShowsAsked turns.entry))
+        (IsTextOf template.entry.head.now template.entry.tail.now asked.entry.settings.now.workers
+        asked.entry.settings.now.fan (ShowsAsked asked.entry.turns))
         (R.remaining reader.old) (W.contents writer.old) (W.contents writer.new)) }
     ensures fault { IfErr result (TellsWorkersFault (R.remaining reader.old)) }
     ensures left { IfErr result (λ error. LeavesShow
-        (IsTextOf template.entry.head.now template.entry.tail.now
-        settings.now.workers settings.now.fan (ShowsAsked turns.entry))
+        (IsTextOf template.entry.head.now template.entry.tail.now asked.entry.settings.now.workers
+        asked.entry.settings.now.fan (ShowsAsked asked.entry.turns))
         (R.remaining reader.old) error (W.contents writer.old) (W.contents writer.new)) }
 {
     let script = read_script(alloc, reader)?;
-    let index = new_index(alloc, settings)?;
-    let mut text = String::new(alloc);
+    let index = new_index(alloc, asked.settings)?;
+    let mut film = Film::new(alloc);
     write!(
-        text,
+        film.text,
         "workers {}\nfan {}\n",
-        settings.workers(),
-        settings.fan()
+        asked.settings.workers(),
+        asked.settings.fan()
     )?;
-    show_parts(
-        alloc,
-        index,
-        script.parts,
-        settings.workers(),
-        turns,
-        &mut text,
-    )?;
-    write_replay(writer, template.head, &text, template.tail)
+    show_parts(&mut film, index, script.parts, asked)?;
+    write_replay(writer, template.head, &film.text, template.tail)
 }
 
 // Adds the text of the last batch, over the tree that the parts before it leave.
 fn show_parts(
-    alloc: Global,
+    film: &mut Film,
     index: Index,
     parts: Vec<Part>,
-    workers: u8,
-    turns: Turns<'_>,
-    text: &mut String,
+    asked: Asked<'_>,
 ) -> Result<(), ServeError>
-    requires allowed { MayWork workers }
-    requires workers { AreOfWorkers workers turns }
-    ensures shown { OnOk result (AddsParts workers (ShowsAsked turns.entry) index parts.items
-        (string_bytes text.old) (string_bytes text.new)) }
+    requires { AreOfWorkers asked.settings.now.workers asked.turns }
+    ensures shown { OnOk result
+        (AddsParts asked.entry.settings.now.workers (ShowsAsked asked.entry.turns) index parts.items
+        (string_bytes film.old.text) (string_bytes film.new.text)) }
     ensures refused { IfErr result IsPartsFault }
 {
     let mut prefix = parts;
     match take_last_batch(&mut prefix) {
         Some(batch) => {
-            let index = run_parts(alloc, index, prefix, workers)?;
-            show_batch(alloc, index, batch, workers, turns, text)
+            let workers = asked.settings.workers();
+            let index = run_parts(film.alloc, index, prefix, workers)?;
+            show_batch(film, index, batch, asked)
         }
         None => Ok(()),
     }

@@ -1,20 +1,24 @@
 //! Turns one after another, with a frame for each.
-ghost use Rattle.std.specs.Prelude.{◌≡◌, ◌<◌, ◌++◌, [], All, IfErr, OnOk, string_bytes};
+ghost use Rattle.std.specs.Prelude.{◌≡◌, ◌<◌, All, IfErr, OnOk, string_bytes};
 ghost use Rattle.blink_replay.specs.{IsRefusedMemory};
-ghost use Rattle.blink_steps.specs.{HasEnded, PlainRun};
-ghost use Rattle.blink_show.specs.Frames.{first_frame, frame};
+ghost use Rattle.blink_steps.specs.{HasEnded};
 ghost use Rattle.blink_show.specs.Keeping.{Keeps};
 ghost use Rattle.blink_show.specs.Turns.{AddsDrawn, AddsFinish, AddsSchedule};
 ghost use Rattle.blink_show.specs.AskedTurns.{AddsAsked, AreOfWorkers};
 
 use crate::draw::draw;
-use crate::frame::Shown;
-use blink_replay::push_turn;
-use blink_settings::ServeError;
-use blink_steps::{Step, World};
+use crate::frame::{Film, TakenTurn};
+use blink_settings::{ServeError, Settings};
+use blink_steps::World;
 use rand_core::SeedableRng;
 use rand_xoshiro::SplitMix64;
-use std::alloc::{AllocError, Global};
+
+/// What a script is shown by: its settings, and the turns of its last batch before the finish.
+#[derive(Clone, Copy, Debug)]
+pub(crate) struct Asked<'a> {
+    pub settings: &'a Settings,
+    pub turns: Turns<'a>,
+}
 
 /// The turns before the finish.
 #[derive(Clone, Copy, Debug)]
@@ -25,67 +29,34 @@ pub(crate) enum Turns<'a> {
     Seed(u64),
 }
 
-/// A turn that was taken: the word that its frame's heading begins with, its worker, and its result.
-#[derive(Clone, Copy)]
-struct TakenTurn<'a> {
-    word: &'a str,
-    worker: u8,
-    step: Step,
-}
-
-/// Adds the frame of the first tree state.
-pub(crate) fn show_first(
-    alloc: Global,
-    world: &World,
-    shown: &mut Shown,
-    text: &mut String,
-) -> Result<(), AllocError>
-    requires lines { shown.old.lines.items ≡ [] }
-    requires decided { shown.old.decided ≡ 0 }
-    ensures text { OnOk result
-        (string_bytes text.new ≡ string_bytes text.old ++ first_frame world.now.run) }
-    ensures kept { OnOk result (Keeps shown.new world.now.run) }
-{
-    text.push_str("first\n")?;
-    shown.show(alloc, world, text)
-}
-
 /// Takes the turns asked for, and adds a frame for each. The owners are the workers of the batch's operations.
 pub(crate) fn show_turns(
-    alloc: Global,
+    film: &mut Film,
     world: &mut World,
     turns: Turns<'_>,
     owners: &[u8],
-    shown: &mut Shown,
-    text: &mut String,
 ) -> Result<(), ServeError>
     requires workers { AreOfWorkers world.old.run.assignment.workers turns }
     requires owners { owners.now ≡ world.old.run.assignment.lanes }
-    requires kept { Keeps shown.old world.old.run }
-    ensures text { OnOk result
-        (AddsAsked turns.entry world.old world.new (string_bytes text.old) (string_bytes text.new)) }
-    ensures kept { OnOk result (Keeps shown.new world.new.run) }
+    requires kept { Keeps film.old world.old.run }
+    ensures text { OnOk result (AddsAsked turns.entry world.old world.new
+        (string_bytes film.old.text) (string_bytes film.new.text)) }
+    ensures kept { OnOk result (Keeps film.new world.new.run) }
     ensures refused { IfErr result IsRefusedMemory }
 {
     match turns {
-        Turns::Schedule(schedule) => show_schedule(alloc, world, schedule, shown, text),
-        Turns::Seed(seed) => show_drawn(alloc, world, seed, owners, shown, text),
+        Turns::Schedule(schedule) => show_schedule(film, world, schedule),
+        Turns::Seed(seed) => show_drawn(film, world, seed, owners),
     }
 }
 
 // Takes a turn for each number of the schedule, and adds a frame for each.
-fn show_schedule(
-    alloc: Global,
-    world: &mut World,
-    schedule: &[u8],
-    shown: &mut Shown,
-    text: &mut String,
-) -> Result<(), ServeError>
+fn show_schedule(film: &mut Film, world: &mut World, schedule: &[u8]) -> Result<(), ServeError>
     requires workers { All (λ worker. worker < world.old.run.assignment.workers) schedule.now }
-    requires kept { Keeps shown.old world.old.run }
-    ensures text { OnOk result
-        (AddsSchedule world.old schedule.now world.new (string_bytes text.old) (string_bytes text.new)) }
-    ensures kept { OnOk result (Keeps shown.new world.new.run) }
+    requires kept { Keeps film.old world.old.run }
+    ensures text { OnOk result (AddsSchedule world.old schedule.now world.new
+        (string_bytes film.old.text) (string_bytes film.new.text)) }
+    ensures kept { OnOk result (Keeps film.new world.new.run) }
     ensures refused { IfErr result IsRefusedMemory }
 {
     for &worker in schedule {
@@ -95,50 +66,43 @@ fn show_schedule(
             worker,
             step,
         };
-        show_turn(alloc, turn, world, shown, text)?;
+        film.turn(turn, world)?;
     }
     Ok(())
 }
 
 // Takes turns of workers that the seed draws, until all operations have ended, and adds a frame for each.
 fn show_drawn(
-    alloc: Global,
+    film: &mut Film,
     world: &mut World,
     seed: u64,
     owners: &[u8],
-    shown: &mut Shown,
-    text: &mut String,
 ) -> Result<(), ServeError>
     requires owners { owners.now ≡ world.old.run.assignment.lanes }
-    requires kept { Keeps shown.old world.old.run }
-    ensures text { OnOk result
-        (AddsDrawn seed world.old world.new (string_bytes text.old) (string_bytes text.new)) }
-    ensures kept { OnOk result (Keeps shown.new world.new.run) }
+    requires kept { Keeps film.old world.old.run }
+    ensures text { OnOk result (AddsDrawn seed world.old world.new
+        (string_bytes film.old.text) (string_bytes film.new.text)) }
+    ensures kept { OnOk result (Keeps film.new world.new.run) }
     ensures refused { IfErr result IsRefusedMemory }
 {
     let mut chance = SplitMix64::seed_from_u64(seed);
-    while let Some(worker) = draw(alloc, world, owners, &mut chance)? {
+    while let Some(worker) = draw(film.alloc, world, owners, &mut chance)? {
         let step = world.step(worker)?;
         let turn = TakenTurn {
             word: "turn ",
             worker,
             step,
         };
-        show_turn(alloc, turn, world, shown, text)?;
+        film.turn(turn, world)?;
     }
     Ok(())
 }
 
 /// Takes picked turns until all operations have ended, and adds a frame for each.
-pub(crate) fn show_finish(
-    alloc: Global,
-    world: &mut World,
-    shown: &mut Shown,
-    text: &mut String,
-) -> Result<(), ServeError>
-    requires { Keeps shown.old world.old.run }
-    ensures text { OnOk result
-        (AddsFinish world.old world.new (string_bytes text.old) (string_bytes text.new)) }
+pub(crate) fn show_finish(film: &mut Film, world: &mut World) -> Result<(), ServeError>
+    requires { Keeps film.old world.old.run }
+    ensures text { OnOk result (AddsFinish world.old world.new
+        (string_bytes film.old.text) (string_bytes film.new.text)) }
     ensures ended { OnOk result (HasEnded world.new.run) }
     ensures refused { IfErr result IsRefusedMemory }
 {
@@ -149,25 +113,7 @@ pub(crate) fn show_finish(
             worker,
             step,
         };
-        show_turn(alloc, turn, world, shown, text)?;
+        film.turn(turn, world)?;
     }
     Ok(())
-}
-
-// Adds the frame of the turn that has led to this world.
-fn show_turn(
-    alloc: Global,
-    turn: TakenTurn<'_>,
-    world: &World,
-    shown: &mut Shown,
-    text: &mut String,
-) -> Result<(), AllocError>
-    ensures text { (before : PlainRun) → Keeps shown.old before → OnOk result (string_bytes text.new
-        ≡ string_bytes text.old
-        ++ frame turn.entry.word.now before turn.entry.worker turn.entry.step world.now.run) }
-    ensures kept { OnOk result (Keeps shown.new world.now.run) }
-{
-    text.push_str(turn.word)?;
-    push_turn(text, turn.worker, turn.step)?;
-    shown.show(alloc, world, text)
 }

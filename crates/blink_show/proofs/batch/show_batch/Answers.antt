@@ -1,5 +1,4 @@
-use Rattle.std.proofs.Common.{◌≡◌, ◌++◌, ◌∙◌, ℕ, List, ap, append_assoc, string_bytes}
-use Rattle.blink_batch.specs.declared.Op.{Op}
+use Rattle.std.proofs.Common.{◌≡◌, ◌++◌, ◌∙◌, ℕ, List, refl, append_assoc, string_bytes}
 use Rattle.blink_show.specs.Batch.{ops_from}
 use Rattle.blink_show.specs.Frames.{first_frame}
 use Rattle.blink_show.proofs.batch.show_batch.Goals as goal
@@ -14,12 +13,12 @@ pub returns-clause-shown : goal.returns-clause-shown
 returns-clause-shown c =
     let turns = c.in_ok-show_turns.ensures.text in
     let finish = c.in_ok-show_finish.ensures.text in
-    let ops = ops_from c.args.workers 0 c.ops.result.now in
+    let ops = ops_from c.args.asked.settings.now.workers 0 c.args.batch in
     let first = first_frame c.in_ok-world.world.run in (
       ops ++ (first ++ (turns.0 ++ finish.0)),
       record {
         start = c.in_ok-world.world;
-        is_start = rw (c.in_ok-lanes.ensures.lanes, c.into_rest.ensures) at c.in_ok-world.ensures.start;
+        is_start = rw (c.in_ok-lanes.ensures.lanes, c.workers-workers.ensures.workers, c.into_rest.ensures) at c.in_ok-world.ensures.start;
         replayed = c.show_turns.new.world;
         turns = turns.0;
         shows_turns = turns.1;
@@ -27,8 +26,8 @@ returns-clause-shown c =
         finish = finish.0;
         shows_finish = finish.1;
         ended = c.in_ok-show_finish.ensures.ended;
-        its_text = ap (λ (all : List Op). ops_from c.args.workers 0 all ++ (first ++ (turns.0 ++ finish.0))) c.ops.ensures.ops;
+        its_text = refl;
       },
-      joined (string_bytes c.args.text.now) ops first turns.0 finish.0 (string_bytes c.push_ops.new.text) (string_bytes c.show_first.new.text) (string_bytes c.show_turns.new.text) (string_bytes c.show_finish.new.text)
-          c.in_ok-push_ops.ensures c.in_ok-show_first.ensures.text turns.2 finish.2,
+      joined (string_bytes c.args.film.now.text) ops first turns.0 finish.0 (string_bytes c.push_ops.new.text) (string_bytes c.first.new.self.text) (string_bytes c.show_turns.new.film.text) (string_bytes c.show_finish.new.film.text)
+          (rw (c.ops.ensures.ops, c.workers-workers.ensures.workers) at c.in_ok-push_ops.ensures) c.in_ok-first.ensures.text turns.2 finish.2,
     )

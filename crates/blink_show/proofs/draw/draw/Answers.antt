@@ -2,8 +2,8 @@ use Rattle.std.proofs.Common.{◌≡◌, ◌<◌, ◌%◌, ◌∙◌, ℕ, Some,
 use Rattle.std.proofs.lemmas.Option.{slice_get-get_or}
 use Rattle.std.specs.List.{slice_get}
 use Rattle.rand_xoshiro.specs.SplitMix64.{mix_u64}
-use Rattle.blink_steps.proofs.worlds.SomeoneWouldMove as worlds
-use Rattle.blink_steps.proofs.worlds.WorldPromises.{invariant}
+use Rattle.blink_steps.proofs.Offered as worlds
+use Rattle.blink_steps.proofs.Offered.{invariant}
 use Rattle.blink_show.proofs.MoversAreThose.{IsMoverBelow, each_moves, nobody_moves}
 use Rattle.blink_show.proofs.draw.draw.Goals as goal
 

@@ -9,27 +9,27 @@ use Rattle.blink_show.proofs.show.show_script.Given.{Over}
 use Rattle.blink_show.proofs.show.show_script.Goals as goal
 
 -- what is to be written is the text between head and tail
-is_text : (g : Over) (c : goal.After-drop-text-2 g) (read : List ℕ) → g.R.Read.remaining c.args.reader.now ≡ Some read
-    → IsTextOf c.args.template.head.now c.args.template.tail.now c.args.settings.now.workers c.args.settings.now.fan (ShowsAsked c.args.turns) (records_of read) (c.args.template.head.now ++ (c.deref.result.now ++ c.args.template.tail.now))
+is_text : (g : Over) (c : goal.After-drop-film-3 g) (read : List ℕ) → g.R.Read.remaining c.args.reader.now ≡ Some read
+    → IsTextOf c.args.template.head.now c.args.template.tail.now c.args.asked.settings.now.workers c.args.asked.settings.now.fan (ShowsAsked c.args.asked.turns) (records_of read) (c.args.template.head.now ++ (c.deref.result.now ++ c.args.template.tail.now))
 is_text g c =
-    let sizes : string_bytes c.write.new.self ≡ sizes_text c.args.settings.now.workers c.args.settings.now.fan
-    = c.in_ok-write.ensures.bytes ∙ rw (c.new-text.ensures.bytes, c.workers.ensures.workers, c.fan.ensures.fan) refl in
-    is_show_text c.args.template.head.now c.args.template.tail.now c.args.settings.now.workers c.args.settings.now.fan (ShowsAsked c.args.turns) (g.R.Read.remaining c.args.reader.now) c.in_ok-script.script.parts.items
-    c.workers-2.result c.in_ok-index.index (string_bytes c.write.new.self) (string_bytes c.show_parts.new.text) c.deref.result.now
-    c.in_ok-script.ensures.script c.workers-2.ensures.workers c.in_ok-index.ensures.index sizes c.in_ok-show_parts.ensures.shown c.deref.ensures
+    let sizes : string_bytes c.write.new.self ≡ sizes_text c.args.asked.settings.now.workers c.args.asked.settings.now.fan
+    = c.in_ok-write.ensures.bytes ∙ rw (c.new-film.ensures, c.workers.ensures.workers, c.fan.ensures.fan) refl in
+    is_show_text c.args.template.head.now c.args.template.tail.now c.args.asked.settings.now.workers c.args.asked.settings.now.fan (ShowsAsked c.args.asked.turns) (g.R.Read.remaining c.args.reader.now) c.in_ok-script.script.parts.items
+    c.in_ok-index.index (string_bytes c.write.new.self) (string_bytes c.show_parts.new.film.text) c.deref.result.now
+    c.in_ok-script.ensures.script c.in_ok-index.ensures.index sizes c.in_ok-show_parts.ensures.shown c.deref.ensures
 
 -- all of it is written
 pub returns-clause-shown : goal.returns-clause-shown
 returns-clause-shown g c =
     on_ok_weaker c.write_replay.result
-    (λ out. writes_whole g.W.Write.contents (g.R.Read.remaining c.args.reader.now) c.args.writer.now c.write_replay.new.tracked_writer (IsTextOf c.args.template.head.now c.args.template.tail.now c.args.settings.now.workers c.args.settings.now.fan (ShowsAsked c.args.turns)) _ (is_text g c) out)
+    (λ out. writes_whole g.W.Write.contents (g.R.Read.remaining c.args.reader.now) c.args.writer.now c.write_replay.new.tracked_writer (IsTextOf c.args.template.head.now c.args.template.tail.now c.args.asked.settings.now.workers c.args.asked.settings.now.fan (ShowsAsked c.args.asked.turns)) _ (is_text g c) out)
     c.write_replay.ensures.written
 
 -- or a beginning of it
 pub returns-clause-left : goal.returns-clause-left
 returns-clause-left g c =
     IfErr-weaker c.write_replay.result _
-    (λ error. LeavesShow (IsTextOf c.args.template.head.now c.args.template.tail.now c.args.settings.now.workers c.args.settings.now.fan (ShowsAsked c.args.turns)) (g.R.Read.remaining c.args.reader.now) error (g.W.Write.contents c.args.writer.now) (g.W.Write.contents c.write_replay.new.tracked_writer))
+    (λ error. LeavesShow (IsTextOf c.args.template.head.now c.args.template.tail.now c.args.asked.settings.now.workers c.args.asked.settings.now.fan (ShowsAsked c.args.asked.turns)) (g.R.Read.remaining c.args.reader.now) error (g.W.Write.contents c.args.writer.now) (g.W.Write.contents c.write_replay.new.tracked_writer))
     (λ error broken. rw broken.0
-    (writes_prefix g.W.Write.contents (g.R.Read.remaining c.args.reader.now) c.args.writer.now c.write_replay.new.tracked_writer (IsTextOf c.args.template.head.now c.args.template.tail.now c.args.settings.now.workers c.args.settings.now.fan (ShowsAsked c.args.turns)) _ (is_text g c) broken.1))
+    (writes_prefix g.W.Write.contents (g.R.Read.remaining c.args.reader.now) c.args.writer.now c.write_replay.new.tracked_writer (IsTextOf c.args.template.head.now c.args.template.tail.now c.args.asked.settings.now.workers c.args.asked.settings.now.fan (ShowsAsked c.args.asked.turns)) _ (is_text g c) broken.1))
     c.write_replay.ensures.broken_off

@@ -8,10 +8,10 @@ use Rattle.blink_show.proofs.turns.show_drawn.Given as goal
 -- the turns so far are shown, and a word was drawn for each
 abbrev pub invariant-loop-worker : goal.invariant-loop-worker
 invariant-loop-worker l = record {
-  kept : Keeps l.shown l.world.run;
+  kept : Keeps l.film l.world.run;
   same_assignment : l.world.run.assignment ≡ l.initial.world.run.assignment;
   schedule : List ℕ;
-  shown : AddsTurns (codes "turn ") (IsDrawn l.seed) l.initial.world schedule l.world (string_bytes l.initial.text) (string_bytes l.text);
+  shown : AddsTurns (codes "turn ") (IsDrawn l.seed) l.initial.world schedule l.world (string_bytes l.initial.film.text) (string_bytes l.film.text);
   words : l.chance ≡ state_after l.seed (length schedule);
 }
 

@@ -7,8 +7,8 @@ use Rattle.blink_show.proofs.turns.show_finish.Given as goal
 -- the turns so far are shown
 abbrev pub invariant-loop-worker : goal.invariant-loop-worker
 invariant-loop-worker l = record {
-  kept : Keeps l.shown l.world.run;
-  shown : AddsFinish l.initial.world l.world (string_bytes l.initial.text) (string_bytes l.text);
+  kept : Keeps l.film l.world.run;
+  shown : AddsFinish l.initial.world l.world (string_bytes l.initial.film.text) (string_bytes l.film.text);
 }
 
 -- fewer steps are left each time
