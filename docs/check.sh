@@ -213,6 +213,11 @@ for lib in crates/*/specs/Lib.antt; do
     done
 done >>"$work/found"
 
+# The same of proofs/: another crate names Offered.antt alone, and what the compiler writes beside a type: TheLaws and TheSendSync.
+grep -rnoE --include='*.antt' --include='*.rt' 'Rattle\.(blink|index|show)_[a-z_]+\.proofs\.[^ ;{]*' crates/*/src crates/*/specs crates/*/proofs |
+    awk -F: '{ split($1, at, "/"); split($3, word, "."); if (word[2] != at[2] && word[4] != "Offered" && $3 !~ /\.The(Laws|SendSync)(\.|$)/)
+        print $1 ":" $2 ": names " $3 ", which stands in another crate: name it by Offered.antt" }' >>"$work/found"
+
 # Rooms: C, Rust and Python count the same for a session, page numbers for a draw and for an insertion's 22.
 drawn=$(sed -n 's/^pub(crate) const PAGE_CHUNK: u64 = \([0-9]*\);/\1/p' crates/blink_map/src/waiting.rt)
 for it in include/blink.h rust/blink/src/map.rs python/blink.py; do
