@@ -4,13 +4,16 @@
 #![cfg(all(target_os = "linux", target_arch = "x86_64", target_env = "gnu"))]
 
 mod stepped;
+#[allow(dead_code)]
+#[path = "../src/sys.rs"]
+mod sys;
 
-use blink::{Answer, Begun, Error, Index, Map, Op, Session};
-use std::ffi::{c_int, c_void};
+use blink::{Answer, Begun, Error, Index, Map, Op, Reserve, Session};
 use std::fmt::Debug;
 use std::sync::atomic::{AtomicU32, Ordering};
-use std::{mem, ptr, thread};
+use std::{ptr, thread};
 use stepped::by_instruction;
+use sys::*;
 
 const ENTRIES: [(u64, u64); 4] = [(1, 10), (2, 20), (3, 30), (4, 40)];
 
@@ -116,89 +119,28 @@ fn an_operation_rests_while_a_change_that_is_stopped_has_its_page() {
 // ---- a renewal that is stopped again and again
 
 // The calls of C, since those of Rust wait until the map is renewed.
-#[repr(C)]
-struct Handle {
-    at: *mut c_void,
+const DONE: Code = 0;
+const RENEWING: Code = 109;
+
+// What a call that fills an empty handle gives.
+fn filled(fill: impl FnOnce(*mut Handle) -> Code) -> Handle {
+    let mut handle = Handle::EMPTY;
+    assert_eq!(fill(&mut handle), DONE);
+    handle
 }
 
-#[repr(C)]
-struct RawAnswer {
-    kind: u64,
-    pointer: u64,
-}
-
-#[repr(C)]
-#[derive(Clone, Copy, PartialEq, Debug)]
-struct RawEntry {
-    key: u64,
-    pointer: u64,
-}
-
-// What `blink_scanned` and `blink_taken` have room in.
-type RawTold = [u64; 4];
-
-const DONE: c_int = 0;
-const RENEWING: c_int = 109;
-
-extern "C" {
-    fn blink_index_new(fan: u8, out: *mut Handle) -> c_int;
-    fn blink_index_insert(index: *mut Handle, key: u64, pointer: u64, answer: *mut RawAnswer) -> c_int;
-    fn blink_index_find(index: *const Handle, key: u64, pointer: *mut u64) -> bool;
-    fn blink_index_free(index: Handle);
-    fn blink_map_open_unnamed(index: *const Handle, out: *mut Handle, place: *mut u64) -> c_int;
-    fn blink_map_share_alone(map: *mut Handle, out: *mut Handle) -> c_int;
-    fn blink_map_join_alone(map: *mut Handle, out: *mut Handle) -> c_int;
-    fn blink_map_renew(map: *mut Handle, looks: u32) -> c_int;
-    fn blink_map_close(map: *mut Handle, out: *mut Handle) -> c_int;
-    fn blink_map_free(map: Handle);
-    fn blink_session_find(session: *mut Handle, key: u64, tries: u32, answer: *mut RawAnswer) -> c_int;
-    fn blink_session_scan(
-        session: *mut Handle,
-        lo: u64,
-        hi: u64,
-        tries: u32,
-        entries: *mut RawEntry,
-        places: usize,
-        scanned: *mut RawTold,
-    ) -> c_int;
-    fn blink_session_scan_back(
-        session: *mut Handle,
-        lo: u64,
-        hi: u64,
-        tries: u32,
-        entries: *mut RawEntry,
-        places: usize,
-        scanned: *mut RawTold,
-    ) -> c_int;
-    fn blink_session_snapshot(
-        session: *mut Handle,
-        lo: u64,
-        hi: u64,
-        tries: u32,
-        entries: *mut RawEntry,
-        places: usize,
-        taken: *mut RawTold,
-    ) -> c_int;
-    fn blink_session_insert(session: *mut Handle, key: u64, pointer: u64, tries: u32, answer: *mut RawAnswer) -> c_int;
-    fn blink_session_replace(session: *mut Handle, key: u64, pointer: u64, tries: u32, answer: *mut RawAnswer) -> c_int;
-    fn blink_session_hold(session: *mut Handle, tries: u32) -> c_int;
-    fn blink_session_let_go(session: *mut Handle);
-    fn blink_session_free(session: Handle);
-}
-
-impl Handle {
-    // What a call that fills an empty handle gives.
-    fn filled(fill: impl FnOnce(*mut Handle) -> c_int) -> Handle {
-        let mut handle = Handle { at: ptr::null_mut() };
-        assert_eq!(fill(&mut handle), DONE);
-        handle
-    }
+// The same handle once more, for a thread that alone uses it.
+fn lent(handle: &Handle) -> Handle {
+    // SAFETY: a handle is a pointer alone, and the caller frees one of the two.
+    unsafe { ptr::read(handle) }
 }
 
 // A session that looks one key up, and gives another one the next greater pointer each time.
 struct Caller {
     map: Handle,
     session: Handle,
+    // A session that is told what the first one has seen.
+    other: Handle,
     pointer: u64,
     answered: u32,
     refused: u32,
@@ -210,15 +152,15 @@ impl Caller {
     // Joins the map, in which key 2 has pointer 20.
     fn joining(map: &mut Handle) -> Caller {
         // SAFETY: the map's handle is full.
-        let session = Handle::filled(|out| unsafe { blink_map_join_alone(map, out) });
+        let [session, other] = [(); 2].map(|()| filled(|out| unsafe { blink_map_join_alone(map, out) }));
         // SAFETY: as before.
-        let map = Handle::filled(|out| unsafe { blink_map_share_alone(map, out) });
-        Caller { map, session, pointer: 20, answered: 0, refused: 0, searched: 0 }
+        let map = filled(|out| unsafe { blink_map_share_alone(map, out) });
+        Caller { map, session, other, pointer: 20, answered: 0, refused: 0, searched: 0 }
     }
 
     // Each call answers as if nobody renewed the map, or changes nothing and says that somebody does.
     fn calls(&mut self) {
-        let mut answer = RawAnswer { kind: 0, pointer: 0 };
+        let mut answer = RawAnswer::NONE;
         // SAFETY: the handle is full and this caller's own.
         let found = match unsafe { blink_session_find(&mut self.session, 1, 1, &mut answer) } {
             DONE => {
@@ -247,15 +189,23 @@ impl Caller {
         }
     }
 
-    // Where a search is refused, each other read is, and stores nothing.
+    // Where a search is refused, each other read is, and stores nothing. So is telling another session.
     fn reads_are_refused(&mut self) {
-        const NONE: RawEntry = RawEntry { key: 0, pointer: 0 };
-        let (mut entries, mut told) = ([NONE; 4], RawTold::default());
-        for read in [blink_session_scan, blink_session_scan_back, blink_session_snapshot] {
+        let mut entries = [RawEntry::NONE; 4];
+        let mut scanned = RawScanned { filled: 5, more: 6, next: 7 };
+        let mut taken = RawTaken { taken: 5, there: 6 };
+        let into = entries.as_mut_ptr();
+        for scan in [blink_session_scan, blink_session_scan_back] {
             // SAFETY: the handle is full and this caller's own; the array has four places.
-            let code = unsafe { read(&mut self.session, 0, u64::MAX, 1, entries.as_mut_ptr(), 4, &mut told) };
-            assert_eq!((code, entries, told), (RENEWING, [NONE; 4], RawTold::default()));
+            assert_eq!(unsafe { scan(&mut self.session, 0, u64::MAX, 1, into, 4, &mut scanned) }, RENEWING);
         }
+        // SAFETY: as before; both handles are full and this caller's own.
+        let codes = unsafe {
+            let read = blink_session_snapshot(&mut self.session, 0, u64::MAX, 1, into, 4, &mut taken);
+            (read, blink_session_tell(&mut self.session, &mut self.other, 1))
+        };
+        assert_eq!((codes, entries.map(<(u64, u64)>::from)), ((RENEWING, RENEWING), [(0, 0); 4]));
+        assert_eq!((scanned.filled, scanned.more, scanned.next, taken.taken, taken.there), (5, 6, 7, 5, 6));
     }
 
     // Where a change is refused, so are a hold and another renewal.
@@ -269,19 +219,19 @@ impl Caller {
 // Between so many instructions of the renewal, which has some millions, there are two calls.
 const BETWEEN: u32 = 1_511;
 
-// Renews a map that so many sessions have joined. The first one calls in between, and the others do nothing. Returns that one.
+// Renews a map that so many sessions have joined, two at least. The first one calls in between, and the others do nothing. Returns that one.
 fn calls_beside_a_renewal(sessions: u32) -> Caller {
     // SAFETY: handles are filled once, and freed once at the end; each is used as blink.h says, by this thread alone.
     unsafe {
-        let mut index = Handle::filled(|out| blink_index_new(4, out));
+        let mut index = filled(|out| blink_index_new(4, out));
         for (key, pointer) in ENTRIES {
-            let mut answer = RawAnswer { kind: 0, pointer: 0 };
+            let mut answer = RawAnswer::NONE;
             assert_eq!(blink_index_insert(&mut index, key, pointer, &mut answer), DONE);
         }
         let mut place = 0;
-        let mut map = Handle::filled(|out| blink_map_open_unnamed(&index, out, &mut place));
+        let mut map = filled(|out| blink_map_open_unnamed(&mut index, out, &mut place));
         let mut caller = Caller::joining(&mut map);
-        let idle: Vec<_> = (1..sessions).map(|_| Handle::filled(|out| blink_map_join_alone(&mut map, out))).collect();
+        let idle: Vec<_> = (2..sessions).map(|_| filled(|out| blink_map_join_alone(&mut map, out))).collect();
         let mut instructions = 0u32;
         let renewed = by_instruction(
             || blink_map_renew(&mut map, 1),
@@ -295,15 +245,16 @@ fn calls_beside_a_renewal(sessions: u32) -> Caller {
         );
         assert_eq!(renewed, DONE);
         assert!(caller.refused > 100, "{} and {} calls beside {instructions} instructions", caller.answered, caller.refused);
-        let mut answer = RawAnswer { kind: 0, pointer: 0 };
+        let mut answer = RawAnswer::NONE;
         assert_eq!((blink_session_find(&mut caller.session, 2, 1, &mut answer), answer.pointer), (DONE, caller.pointer));
         idle.into_iter().for_each(|session| blink_session_free(session));
-        blink_session_free(mem::replace(&mut caller.session, Handle { at: ptr::null_mut() }));
-        blink_map_free(mem::replace(&mut caller.map, Handle { at: ptr::null_mut() }));
-        let closed = Handle::filled(|out| blink_map_close(&mut map, out));
+        blink_session_free(caller.session.take());
+        blink_session_free(caller.other.take());
+        blink_map_free(caller.map.take());
+        let mut closed = filled(|out| blink_map_close(&mut map, out));
         for (key, expected) in [(1, 10), (2, caller.pointer), (3, 30), (4, 40)] {
             let mut found = 0;
-            assert!(blink_index_find(&closed, key, &mut found) && found == expected);
+            assert!(blink_index_find(&mut closed, key, &mut found) && found == expected);
         }
         blink_map_free(map);
         blink_index_free(closed);
@@ -322,7 +273,7 @@ fn calls_beside_a_renewal_that_is_stopped_anywhere_answer_or_are_refused() {
 // The renewal copies by a session that nobody has, and the other one searches meanwhile, but where the sessions are gathered.
 #[test]
 fn searches_go_on_beside_a_renewal_that_is_stopped_anywhere() {
-    let Caller { refused, searched, .. } = calls_beside_a_renewal(1);
+    let Caller { refused, searched, .. } = calls_beside_a_renewal(2);
     assert!(searched > refused / 4 * 3, "{searched} of {refused}");
 }
 
@@ -358,16 +309,16 @@ impl Shared {
     fn open() -> Shared {
         // SAFETY: handles are filled once.
         unsafe {
-            let mut index = Handle::filled(|out| blink_index_new(4, out));
+            let mut index = filled(|out| blink_index_new(4, out));
             for (key, pointer) in ENTRIES {
-                let mut answer = RawAnswer { kind: 0, pointer: 0 };
+                let mut answer = RawAnswer::NONE;
                 assert_eq!(blink_index_insert(&mut index, key, pointer, &mut answer), DONE);
             }
             let mut place = 0;
-            let mut map = Handle::filled(|out| blink_map_open_unnamed(&index, out, &mut place));
-            let renewing = Handle::filled(|out| blink_map_share_alone(&mut map, out));
-            let changing = Handle::filled(|out| blink_map_join_alone(&mut map, out));
-            let looking = Handle::filled(|out| blink_map_join_alone(&mut map, out));
+            let mut map = filled(|out| blink_map_open_unnamed(&mut index, out, &mut place));
+            let renewing = filled(|out| blink_map_share_alone(&mut map, out));
+            let changing = filled(|out| blink_map_join_alone(&mut map, out));
+            let looking = filled(|out| blink_map_join_alone(&mut map, out));
             Shared { index, map, renewing, changing, looking }
         }
     }
@@ -380,12 +331,12 @@ impl Shared {
             blink_session_free(changing);
             blink_session_free(looking);
             blink_map_free(renewing);
-            let closed = Handle::filled(|out| blink_map_close(&mut map, out));
+            let mut closed = filled(|out| blink_map_close(&mut map, out));
             let mut found = 0;
             for (key, expected) in ENTRIES {
-                assert!(blink_index_find(&closed, key, &mut found) && found == expected);
+                assert!(blink_index_find(&mut closed, key, &mut found) && found == expected);
             }
-            let is_there = blink_index_find(&closed, 5, &mut found) && found == 50;
+            let is_there = blink_index_find(&mut closed, 5, &mut found) && found == 50;
             blink_map_free(map);
             blink_index_free(closed);
             blink_index_free(index);
@@ -406,7 +357,7 @@ fn inserts_during_a_copy(instructions: u32, of_renewal: u32) -> bool {
         scope.spawn(move || {
             waits_for(turn, RENEWAL);
             let mut renewed = 0;
-            let mut map = Handle { at: theirs.renewing.at };
+            let mut map = lent(&theirs.renewing);
             let code = by_instruction(
                 // SAFETY: this thread alone has the handle.
                 || unsafe { blink_map_renew(&mut map, 1) },
@@ -422,8 +373,8 @@ fn inserts_during_a_copy(instructions: u32, of_renewal: u32) -> bool {
             turn.fetch_max(REST_OF_CHANGE, Ordering::SeqCst);
             assert!(code == DONE || code == RENEWING);
         });
-        let (mut session, mut other) = (Handle { at: shared.changing.at }, Handle { at: shared.looking.at });
-        let mut answer = RawAnswer { kind: 0, pointer: 0 };
+        let (mut session, mut other) = (lent(&shared.changing), lent(&shared.looking));
+        let mut answer = RawAnswer::NONE;
         let code = by_instruction(
             // SAFETY: this thread alone has the handles.
             || unsafe { blink_session_insert(&mut session, 5, 50, 1, &mut answer) },
@@ -448,7 +399,7 @@ fn inserts_during_a_copy(instructions: u32, of_renewal: u32) -> bool {
 
 // Whether the map is being renewed, and searches go on: its entries are being copied. The handle is this thread's own.
 unsafe fn is_copied(session: &mut Handle) -> bool {
-    let mut answer = RawAnswer { kind: 0, pointer: 0 };
+    let mut answer = RawAnswer::NONE;
     if blink_session_find(session, 1, 1, &mut answer) != DONE {
         return false;
     }
@@ -464,7 +415,7 @@ unsafe fn is_copied(session: &mut Handle) -> bool {
 fn is_taken_after(instructions: u32) -> bool {
     let mut shared = Shared::open();
     let (mut passed, mut renewed) = (0, DONE);
-    let mut answer = RawAnswer { kind: 0, pointer: 0 };
+    let mut answer = RawAnswer::NONE;
     let (changing, renewing) = (&mut shared.changing, &mut shared.renewing);
     let code = by_instruction(
         // SAFETY: this thread alone has the handles.
@@ -487,7 +438,7 @@ fn copies_after() -> u32 {
     let mut shared = Shared::open();
     let (mut passed, mut gathered, mut copies) = (0, false, None);
     let (renewing, looking) = (&mut shared.renewing, &mut shared.looking);
-    let mut answer = RawAnswer { kind: 0, pointer: 0 };
+    let mut answer = RawAnswer::NONE;
     let renewed = by_instruction(
         // SAFETY: this thread alone has the handles.
         || unsafe { blink_map_renew(renewing, 1) },
