@@ -1,9 +1,9 @@
-use Rattle.std.proofs.Common.{◌≡◌, ℕ, ◌+◌, Some, List, refl, ap, sym, ◌∙◌, subst, inl, inr, arith}
+use Rattle.std.proofs.Common.{◌≡◌, ℕ, ◌+◌, Some, List, ap, sym, ◌∙◌, subst, inr, arith}
 use Rattle.std.specs.Prelude.{Contains}
 use Rattle.blink_batch.specs.declared.Op.TheVariants.{Exchange}
 use Rattle.blink_batch.specs.{pointer_of}
 use Rattle.blink_live.specs.declared.live.Pass.{Pass}
-use Rattle.blink_live.specs.{deletes_left, IsChangedBy, IsPassOf, keys_of, share_of}
+use Rattle.blink_live.specs.{deletes_left, IsChangedBy, IsPassOf, share_of}
 use Rattle.blink_client.proofs.CountersRise.{exchanged, is_spent, refused_same, when_ok}
 use Rattle.blink_client.proofs.counter.raise_own.Goals as goal
 

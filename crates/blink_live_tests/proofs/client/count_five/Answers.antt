@@ -1,4 +1,4 @@
-use Rattle.std.proofs.Common.{◌≡◌, ◌<◌, ◌≤◌, ℕ, Contains, sym, subst, arith}
+use Rattle.std.proofs.Common.{◌≡◌, ◌<◌, ◌≤◌, ℕ, Contains, subst, arith}
 use Rattle.blink_live.specs.{keys_of}
 use Rattle.blink_live_tests.proofs.client.count_five.Goals as goal
 

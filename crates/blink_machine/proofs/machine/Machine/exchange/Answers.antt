@@ -1,5 +1,4 @@
 use Rattle.std.proofs.Common.{◌≡◌, Some, inl, inr, refl, ap, ◌∙◌, arith}
-use Rattle.blink_page.specs.{replaced, PlainPage, with_entries}
 use Rattle.blink_machine.specs.declared.machine.State.TheVariants.{Change}
 use Rattle.blink_machine.specs.Machine.{PlainMachine, at_state, target}
 use Rattle.blink_machine.specs.Table.{is_to_change, swaps}
