@@ -34,6 +34,11 @@ use Rattle.blink_live.proofs.table.LeavesStayInChain.{leaf_tells_all}
 use Rattle.blink_live.proofs.table.LoadsKeepTable.{moved, load_knows_in, load_keeps_with}
 use Rattle.blink_live.proofs.table.SharesAreKnown.{share_is_known}
 
+-- a leaf in its chain is there
+leaf_there : (fan : ℕ) (prime : List ℕ) (pages : Pages) (number : ℕ) → IsLeafInChain fan prime pages number → (page : PlainPage) × (pages number ≡ Some page)
+leaf_there fan prime pages number is =
+    let it = tree_laws.cells_are_of_level fan prime pages is.levels 0 is.cell is.tree is.stands in (is.cell.page, ap pages (sym is.same_number) ∙ it.there)
+
 -- the right link of a leaf in its chain leads to a leaf in its chain
 right_in_chain : (fan : ℕ) (prime : List ℕ) (pages : Pages) (number next : ℕ) (page : PlainPage) → IsLeafInChain fan prime pages number → pages number ≡ Some page → page.right ≡ Some next
     → (IsLeafInChain fan prime pages next) × (its : PlainPage) × (pages next ≡ Some its)
@@ -41,11 +46,8 @@ right_in_chain fan prime pages number next page is there right =
     let it = tree_laws.cells_are_of_level fan prime pages is.levels 0 is.cell is.tree is.stands in
     let same : is.cell.page ≡ page = cc (it.there, there, ap pages is.same_number) in
     let begins = tree_laws.right_begins fan prime pages is.levels 0 next is.cell is.tree is.stands (ap (λ (p : PlainPage). p.right) same ∙ right) in
-    let other = tree_laws.cells_are_of_level fan prime pages is.levels 0 begins.cell is.tree begins.stands in (
-      record { levels = is.levels; tree = is.tree; cell = begins.cell; stands = begins.stands; same_number = begins.same_number },
-      begins.cell.page,
-      ap pages (sym begins.same_number) ∙ other.there,
-    )
+    let in_chain : IsLeafInChain fan prime pages next = record { levels = is.levels; tree = is.tree; cell = begins.cell; stands = begins.stands; same_number = begins.same_number } in
+    let its = leaf_there fan prime pages next in_chain in (in_chain, its.0, its.1)
 
 -- the note of the leaf to the right; where there is none, the note that was there
 abbrev next_note : Option ℕ → List ℕ → ℕ × ℕ → ℕ × ℕ
@@ -162,11 +164,6 @@ module _ (plan : Plan) (s : State ℕ View) (tree_state : TreeState) (h : IsTabl
         word = slice_index s.words next;
         noted = noted_by page.right next right v.look.leaves;
       }
-
--- a leaf in its chain is there
-leaf_there : (fan : ℕ) (prime : List ℕ) (pages : Pages) (number : ℕ) → IsLeafInChain fan prime pages number → (page : PlainPage) × (pages number ≡ Some page)
-leaf_there fan prime pages number is =
-    let it = tree_laws.cells_are_of_level fan prime pages is.levels 0 is.cell is.tree is.stands in (is.cell.page, ap pages (sym is.same_number) ∙ it.there)
 
 -- ---- the step
 

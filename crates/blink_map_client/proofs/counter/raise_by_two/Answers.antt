@@ -1,6 +1,8 @@
 use Rattle.std.proofs.Common.{◌≡◌, ◌+◌, Some, None, sym, ◌∙◌}
+use Rattle.blink_batch.specs.{pointer_of}
+use Rattle.blink_live.specs.{after}
 use Rattle.blink_live.proofs.Offered.{prefix_of_prefix}
-use Rattle.blink_map.specs.{seen_by}
+use Rattle.blink_map.specs.{opening_of, seen_by}
 use Rattle.blink_map_client.proofs.TwoRaise.{all_counted, all_or_refused}
 use Rattle.blink_map_client.proofs.counter.raise_by_two.Goals as goal
 
@@ -27,11 +29,12 @@ returns-clause-ends g c =
     let begins = c.find_for_both.ensures in
     let ends = c.find_for_both-2.ensures in
     let ones = c.side_by_side-by_one.ensures.ones_raised in
+    let state : Some c.in_ok-first.first ≡ after (pointer_of (opening_of c.args.map.now)) (seen_by c.find_for_both.new.one) c.args.key = c.in_ok-first.ensures.state in
     record {
       before = seen_by c.find_for_both.new.one;
       ones = begins.ones.saw;
       others = begins.heard;
-      first = sym c.in_ok-first.ensures.state;
+      first = sym state;
       goes_on = prefix_of_prefix (seen_by c.find_for_both.new.one) (seen_by c.side_by_side-by_one.new.one) (seen_by c.find_for_both-2.new.one) (ones.later, ones.sees) ends.heard;
       last = sym ends.state ∙ c.in-Some.is;
       told = ends.told;

@@ -1,5 +1,6 @@
 use Rattle.std.proofs.Common.{◌++◌}
 use Rattle.std.proofs.lemmas.Result.{IfErr-weaker, err_from_is_err_and, on_ok_weaker}
+use Rattle.blink_replay.specs.{OutputFails, Writes, replay_text}
 use Rattle.blink_replay.proofs.WritersTake.{breaks_after, breaks_before, breaks_unflushed, writes_all_of_both}
 use Rattle.blink_replay.proofs.replay.write_replay.Goals as goal
 
@@ -33,10 +34,12 @@ returns-in_err-write_out-3-clause-broken_off g c =
 pub returns-clause-written : goal.returns-clause-written
 returns-clause-written g c =
     let all_written = writes_all_of_both g.O.TrackedWriter.offered _ _ _ c.args.trace.now _ c.in_ok-write_out.ensures.written (writes_all_of_both g.O.TrackedWriter.offered _ _ _ c.args.text.now c.args.pages.now c.in_ok-write_out-2.ensures.written c.in_ok-write_out-3.ensures.written) in
-    on_ok_weaker c.flush_out.result (λ flushed. record { between = c.write_out-3.new.tracked_writer; all_written = all_written; flushed = flushed }) c.flush_out.ensures.flushed
+    on_ok_weaker {Q = Writes g.O.TrackedWriter.offered g.O.TrackedWriter.settled c.args.tracked_writer.now (replay_text c.args.trace.now c.args.text.now c.args.pages.now) c.flush_out.new.tracked_writer} c.flush_out.result
+    (λ flushed. record { between = c.write_out-3.new.tracked_writer; all_written = all_written; flushed = flushed }) c.flush_out.ensures.flushed
 
 -- and aren't
 pub returns-clause-broken_off : goal.returns-clause-broken_off
 returns-clause-broken_off g c =
     let all_written = writes_all_of_both g.O.TrackedWriter.offered _ _ _ c.args.trace.now _ c.in_ok-write_out.ensures.written (writes_all_of_both g.O.TrackedWriter.offered _ _ _ c.args.text.now c.args.pages.now c.in_ok-write_out-2.ensures.written c.in_ok-write_out-3.ensures.written) in
-    IfErr-weaker c.flush_out.result _ _ (λ error wrong. (wrong.0, breaks_unflushed g.O.TrackedWriter.offered g.O.TrackedWriter.settled _ _ _ _ all_written wrong.1)) c.flush_out.ensures.unflushed
+    IfErr-weaker c.flush_out.result _ (λ error. OutputFails g.O.TrackedWriter.offered g.O.TrackedWriter.settled c.args.tracked_writer.now (replay_text c.args.trace.now c.args.text.now c.args.pages.now) error c.flush_out.new.tracked_writer)
+    (λ error wrong. (wrong.0, breaks_unflushed g.O.TrackedWriter.offered g.O.TrackedWriter.settled _ _ _ _ all_written wrong.1)) c.flush_out.ensures.unflushed

@@ -4,11 +4,15 @@ use Rattle.blink_machine.specs.{need_at}
 use Rattle.blink_live.specs.declared.view.Look.{Look}
 use Rattle.blink_live.specs.declared.view.Plan.{Plan}
 use Rattle.blink_live.specs.Snapshots.{NotesMore}
-use Rattle.blink_live.specs.Views.{SeatState}
+use Rattle.blink_live.specs.Views.{SeatState, for_call}
 use Rattle.blink_live.proofs.found.DescentsGoOn.{comes_down, comes_nearer_by_way, comes_right, comes_to_root, find_ends, is_above_child, reads_leaf}
 use Rattle.blink_live.proofs.found.OperationsOnTheirWay.{is_its_seat, page_in_range}
 use Rattle.blink_live.proofs.looked.SnapshotsGoOn.{comes_noted, searched_noted}
 use Rattle.blink_live.proofs.live.Live.come_to_noted.Goals as goal
+
+-- the seat that looks up a key, with the look that it has come to
+abbrev looking : SeatState → ℕ → Look → SeatState
+looking me key look = (record (for_call me.0 (Find key)) { look = look }, me.1)
 
 -- the notes of a seat that has read a page are those that it had
 noted_by_then : (old middle new : SeatState) → NotesMore old.0.look middle.0.look → new.0.look ≡ middle.0.look → NotesMore old.0.look new.0.look
@@ -26,18 +30,20 @@ loop-next-init c = record {
 
 pub note_word-noted-requires : goal.note_word-noted-requires
 note_word-noted-requires c =
+    let first : SeatState = looking c.args.seat.now.me c.args.key c.loop-next.invariant.come.0 in
     let come = c.loop-next.invariant.come.1 in
     let needs = ap need_at come.at.state in
     let same_counts : c.args.seat.now.me.0.plan.counts ≡ c.args.self.now.counts = ap (λ (p : Plan). p.counts) c.requires.seat.same_plan ∙ sym c.args.self.now.counts_are in record {
-      seat = is_its_seat come.read c.args.self.now c.args.seat.now.table_id c.loop-next.seat.table_id c.loop-next.invariant.same_table.0 record { same_table = c.requires.seat.same_table; same_plan = c.requires.seat.same_plan; role = c.requires.seat.role };
+      seat = is_its_seat {first = first} come.read c.args.self.now c.args.seat.now.table_id c.loop-next.seat.table_id c.loop-next.invariant.same_table.0
+          record { same_table = c.requires.seat.same_table; same_plan = c.requires.seat.same_plan; role = c.requires.seat.role };
       at = come.at;
-      in_range = page_in_range come.read c.args.self.now.counts c.loop-next.number needs same_counts;
+      in_range = page_in_range {first = first} come.read c.args.self.now.counts c.loop-next.number needs same_counts;
     }
 
 pub read_page-requires : goal.read_page-requires
 read_page-requires c =
     let noted = c.note_word-noted.ensures in
-    let come = comes_noted (Find c.args.key) _ c.loop-next.seat.me c.note_word-noted.new.seat.me c.loop-next.number c.loop-next.level noted.same c.loop-next.invariant.come.1 in
+    let come = comes_noted (Find c.args.key) (looking c.args.seat.now.me c.args.key c.loop-next.invariant.come.0) c.loop-next.seat.me c.note_word-noted.new.seat.me c.loop-next.number c.loop-next.level noted.same c.loop-next.invariant.come.1 in
     let needs = ap need_at come.at.state in
     let same_counts : c.args.seat.now.me.0.plan.counts ≡ c.args.self.now.counts = ap (λ (p : Plan). p.counts) c.requires.seat.same_plan ∙ sym c.args.self.now.counts_are in record {
       seat = is_its_seat come.read c.args.self.now c.args.seat.now.table_id c.note_word-noted.new.seat.table_id (noted.same_table.0 ∙ c.loop-next.invariant.same_table.0)
@@ -51,7 +57,7 @@ loop-next-preserved-in-Right-default-default c =
     let before = c.loop-next.invariant in
     let noted = c.note_word-noted.ensures in
     let middle : SeatState = c.note_word-noted.new.seat.me in
-    let come = comes_noted (Find c.args.key) _ c.loop-next.seat.me middle c.loop-next.number c.loop-next.level noted.same before.come.1 in
+    let come = comes_noted (Find c.args.key) (looking c.args.seat.now.me c.args.key before.come.0) c.loop-next.seat.me middle c.loop-next.number c.loop-next.level noted.same before.come.1 in
     let reads = c.read_page.ensures.way come.at in record {
       same_table = (c.read_page.ensures.same.0 ∙ (noted.same_table.0 ∙ before.same_table.0), c.read_page.ensures.same.1 ∙ (noted.same_table.1 ∙ before.same_table.1));
       come = (middle.0.look, comes_right (Find c.args.key) c.loop-next.number c.loop-next.level _ _ middle c.read_page.new.seat.me c.read_page.result.0 c.read_page.result.1 come reads c.in-Right-default-default.next c.in-Right-default-default.is-0);
@@ -62,7 +68,7 @@ pub loop-next-smaller-in-Right-default-default : goal.loop-next-smaller-in-Right
 loop-next-smaller-in-Right-default-default c =
     let noted = c.note_word-noted.ensures in
     let middle : SeatState = c.note_word-noted.new.seat.me in
-    let come = comes_noted (Find c.args.key) _ c.loop-next.seat.me middle c.loop-next.number c.loop-next.level noted.same c.loop-next.invariant.come.1 in
+    let come = comes_noted (Find c.args.key) (looking c.args.seat.now.me c.args.key c.loop-next.invariant.come.0) c.loop-next.seat.me middle c.loop-next.number c.loop-next.level noted.same c.loop-next.invariant.come.1 in
     let reads = c.read_page.ensures.way come.at in
     subst (λ (n : ℕ). c.read_page.new.seat.me.0.descent_bound < n) (ap (λ (x : SeatState). x.0.descent_bound) noted.same)
     (comes_nearer_by_way (Find c.args.key) c.loop-next.number c.loop-next.level _ _ middle c.read_page.new.seat.me c.read_page.result.0 c.read_page.result.1 come reads)
@@ -72,7 +78,7 @@ loop-next-preserved c =
     let before = c.loop-next.invariant in
     let noted = c.note_word-noted.ensures in
     let middle : SeatState = c.note_word-noted.new.seat.me in
-    let come = comes_noted (Find c.args.key) _ c.loop-next.seat.me middle c.loop-next.number c.loop-next.level noted.same before.come.1 in
+    let come = comes_noted (Find c.args.key) (looking c.args.seat.now.me c.args.key before.come.0) c.loop-next.seat.me middle c.loop-next.number c.loop-next.level noted.same before.come.1 in
     let reads = c.read_page.ensures.way come.at in record {
       same_table = (c.read_page.ensures.same.0 ∙ (noted.same_table.0 ∙ before.same_table.0), c.read_page.ensures.same.1 ∙ (noted.same_table.1 ∙ before.same_table.1));
       come = (middle.0.look, comes_down (Find c.args.key) c.loop-next.number c.loop-next.level _ _ middle c.read_page.new.seat.me c.read_page.result.0 c.read_page.result.1 come reads c.in-Down-default-default.child c.in-Down-default-default.is-0);
@@ -83,7 +89,7 @@ pub loop-next-smaller : goal.loop-next-smaller
 loop-next-smaller c =
     let noted = c.note_word-noted.ensures in
     let middle : SeatState = c.note_word-noted.new.seat.me in
-    let come = comes_noted (Find c.args.key) _ c.loop-next.seat.me middle c.loop-next.number c.loop-next.level noted.same c.loop-next.invariant.come.1 in
+    let come = comes_noted (Find c.args.key) (looking c.args.seat.now.me c.args.key c.loop-next.invariant.come.0) c.loop-next.seat.me middle c.loop-next.number c.loop-next.level noted.same c.loop-next.invariant.come.1 in
     let reads = c.read_page.ensures.way come.at in
     subst (λ (n : ℕ). c.read_page.new.seat.me.0.descent_bound < n) (ap (λ (x : SeatState). x.0.descent_bound) noted.same)
     (comes_nearer_by_way (Find c.args.key) c.loop-next.number c.loop-next.level _ _ middle c.read_page.new.seat.me c.read_page.result.0 c.read_page.result.1 come reads)
@@ -92,7 +98,7 @@ pub overflow_sub-level : goal.overflow_sub-level
 overflow_sub-level c =
     let noted = c.note_word-noted.ensures in
     let middle : SeatState = c.note_word-noted.new.seat.me in
-    let come = comes_noted (Find c.args.key) _ c.loop-next.seat.me middle c.loop-next.number c.loop-next.level noted.same c.loop-next.invariant.come.1 in
+    let come = comes_noted (Find c.args.key) (looking c.args.seat.now.me c.args.key c.loop-next.invariant.come.0) c.loop-next.seat.me middle c.loop-next.number c.loop-next.level noted.same c.loop-next.invariant.come.1 in
     let reads = c.read_page.ensures.way come.at in
     is_above_child (Find c.args.key) c.loop-next.number c.loop-next.level _ _ middle c.read_page.new.seat.me c.read_page.result.0 c.read_page.result.1 come reads c.in-Down-default-default.child c.in-Down-default-default.is-0
 
@@ -101,7 +107,7 @@ returns-in-Here-default-default c =
     let before = c.loop-next.invariant in
     let noted = c.note_word-noted.ensures in
     let middle : SeatState = c.note_word-noted.new.seat.me in
-    let come = comes_noted (Find c.args.key) _ c.loop-next.seat.me middle c.loop-next.number c.loop-next.level noted.same before.come.1 in
+    let come = comes_noted (Find c.args.key) (looking c.args.seat.now.me c.args.key before.come.0) c.loop-next.seat.me middle c.loop-next.number c.loop-next.level noted.same before.come.1 in
     let reads = c.read_page.ensures.way come.at in
     let same_look = ap (λ (x : SeatState). x.0.look) reads.loads.is in
     let needs = ap need_at come.at.state in

@@ -1,4 +1,4 @@
-use Rattle.std.proofs.Common.{ℕ, suc, ◌+◌, Option, refl, sym, ap, ◌∙◌, subst, true, false}
+use Rattle.std.proofs.Common.{◌≡◌, ℕ, suc, ◌+◌, Option, refl, sym, ap, ◌∙◌, subst, true, false}
 use Rattle.blink_machine.specs.{done, write_page}
 use Rattle.blink_live.specs.declared.shelf.Shelf.{Shelf}
 use Rattle.blink_live.specs.declared.view.Stock.{Stock}
@@ -58,7 +58,7 @@ returns-in-Some-clause-under_way c op first is =
     let two = c.write_new.ensures.same in
     let three = c.put_rows_back.ensures.same in
     let room = c.lend.ensures.same_room in
-    let plan = ap (λ (x : SeatState). x.0.plan) last.is in
+    let plan : c.put_rows_back.new.seat.me.0.plan ≡ me.0.plan = ap (λ (x : SeatState). x.0.plan) last.is in
     let same_stock = ap (λ (x : SeatState). x.0.stock) last.is in
     let shelved : IsShelved c.write_new.new.room.shelf c.put_rows_back.new.seat.me.0 = subst (λ (x : Option Shelf). IsShelved x c.put_rows_back.new.seat.me.0) (sym (new.shelf ∙ ap (with_spare_on new.spare) lent.same_shelf))
     (subst IsCommon (sym plan) lent.common, same_stock ∙ ap (with_spare new.spare) lent.stock) in

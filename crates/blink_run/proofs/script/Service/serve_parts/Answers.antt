@@ -20,8 +20,9 @@ loop-part-preserved g c =
     let offered = g.O.TrackedWriter.offered in
     let prefix : List Part = take c.loop-part.part-index c.args.parts.now in
     let more : prefix ++ c.part-item.result ∷ [] ≡ take (c.loop-part.part-index + 1) c.args.parts.now =
-    ap (λ (p : Part). prefix ++ p ∷ []) c.part-item.is ∙ sym (take_more c.args.parts.now c.loop-part.part-index c.part-item.result (omega (arith, c.loop-part-test.true))) in (
-      subst (λ (n : ℕ). HasServed offered (map_of c.args.index.now) (take (c.loop-part.part-index + 1) c.args.parts.now) c.args.tracked_writer.now c.serve_part.new.tracked_writer (map_of c.serve_part.new.index) n) (sym c.batches_with-batches.ensures)
+    ap (λ (p : Part). prefix ++ p ∷ []) c.part-item.is ∙ sym (take_more c.args.parts.now c.loop-part.part-index c.part-item.result (omega (arith, c.loop-part-test.true))) in
+    let counted : c.batches_with-batches.result ≡ c.loop-part.batches + count_by is_batch (c.part-item.result ∷ []) = c.batches_with-batches.ensures in (
+      subst (λ (n : ℕ). HasServed offered (map_of c.args.index.now) (take (c.loop-part.part-index + 1) c.args.parts.now) c.args.tracked_writer.now c.serve_part.new.tracked_writer (map_of c.serve_part.new.index) n) (sym counted)
           (subst (λ (parts : List Part). HasServed offered (map_of c.args.index.now) parts c.args.tracked_writer.now c.serve_part.new.tracked_writer (map_of c.serve_part.new.index) (c.loop-part.batches + count_by is_batch (c.part-item.result ∷ []))) more
           (serves_more offered (map_of c.args.index.now) prefix c.part-item.result _ c.loop-part.tracked_writer _ (map_of c.loop-part.index) _ c.loop-part.batches c.loop-part.invariant.0 c.in_ok-serve_part.ensures.served c.in_ok-serve_part.ensures.map)),
       subst (λ (parts : List Part). RunsPartsBy c.args.self.now.settings.now c.args.index.now parts c.serve_part.new.index) more
