@@ -281,7 +281,13 @@ impl Member {
         mark_place(live, seat, *place, next_mark(mark));
         let mut room = room_of(op, rows, pages, shelf.take());
         let changed = live.change_by(seat, &mut room, op, SPINS);
-        let answer = end_of(rt, live, seat, *place, mark, changed, &mut room);
+        let running = Running {
+            seat,
+            live,
+            place: *place,
+            mark,
+        };
+        let answer = running.end_of(rt, changed, &mut room);
         come_back(live, seat, *place);
         rows.next = room.rows.next;
         pages.next = room.pages.next;
@@ -372,61 +378,64 @@ pub(crate) fn room_of(op: Op, rows: &Span, pages: &Span, shelf: Option<Shelf>) -
     }
 }
 
-// The answer of an operation, which goes on to its end where it rests.
-fn end_of<R: Wait>(
-    rt: &R,
-    live: &Live,
-    seat: &mut Seat<u8, View>,
+// The part of a member that runs an operation to its end, with the tree's table. In the clauses below `self.exit.0` is the reference
+// to the seat.
+#[derive(Drop)]
+struct Running<'a> {
+    seat: &'a mut Seat<u8, View>,
+    live: &'a Live,
     place: u64,
-    mark: &mut u64,
-    changed: Changed,
-    room: &mut Room,
-) -> Answer
-    requires came { (op : Op) × (old : Member) × IsMemberOf live.now old
-        × HasComeOut live.now op old seat.old room.old changed
-        × (place ≡ old.place) }
-    ensures { (op : Op) (old : Member) → HasComeOut live.now op old seat.old room.old changed
-        → HasComeOut live.now op old seat.new room.new (Changed.Ended result) }
-{
-    match changed {
-        Changed::Ended(answer) => answer,
-        Changed::Rests(resting) => to_end(rt, live, seat, place, mark, &resting, room),
-    }
+    mark: &'a mut u64,
 }
 
-// Takes steps of an operation that rests until it has ended, and returns its answer. The operation rests between its tries. The
-// function is out of line, so that only an operation that waits clears room for a machine.
-#[cold]
-#[inline(never)]
-fn to_end<R: Wait>(
-    rt: &R,
-    live: &Live,
-    seat: &mut Seat<u8, View>,
-    place: u64,
-    mark: &mut u64,
-    resting: &Resting,
-    room: &mut Room,
-) -> Answer
-    requires set_out { (op : Op) × (old : Member) × IsMemberOf live.now old
-        × HasSetOut live.now op old seat.old resting.now room.old
-        × (place ≡ old.place) }
-    requires waits { IsWaiting resting.now }
-    ensures { (op : Op) (old : Member)
-        → HasSetOut live.now op old seat.old resting.now room.old
-        → HasComeOut live.now op old seat.new room.new (Changed.Ended result) }
-{
-    let mut rested = live.resume(seat, room, resting, 1);
-    for _ in rt.forever() {
-        let resting = match rested {
-            Changed::Ended(answer) => return answer,
-            Changed::Rests(resting) => resting,
-        };
-        mark_place(live, seat, place, REST);
-        thread::yield_now();
-        mark_place(live, seat, place, next_mark(mark));
-        rested = live.resume(seat, room, &resting, 1);
+impl Running<'_> {
+    // The answer of an operation, which goes on to its end where it rests.
+    fn end_of<R: Wait>(self, rt: &R, changed: Changed, room: &mut Room) -> Answer
+        requires came { (op : Op) × (old : Member) × IsMemberOf self.live.now old
+            × HasComeOut self.live.now op old self.seat.now room.old changed
+            × (self.place ≡ old.place) }
+        ensures { (op : Op) (old : Member)
+            → HasComeOut self.entry.live.now op old self.entry.seat.now room.old changed
+            → HasComeOut self.entry.live.now op old self.exit.0.now room.new (Changed.Ended result) }
+    {
+        match changed {
+            Changed::Ended(answer) => answer,
+            Changed::Rests(resting) => self.to_end(rt, &resting, room),
+        }
     }
-    unreachable!()
+
+    // Takes steps of an operation that rests until it has ended, and returns its answer. The operation rests between its tries. The
+    // function is out of line, so that only an operation that waits clears room for a machine.
+    #[cold]
+    #[inline(never)]
+    fn to_end<R: Wait>(self, rt: &R, resting: &Resting, room: &mut Room) -> Answer
+        requires set_out { (op : Op) × (old : Member) × IsMemberOf self.live.now old
+            × HasSetOut self.live.now op old self.seat.now resting.now room.old
+            × (self.place ≡ old.place) }
+        requires waits { IsWaiting resting.now }
+        ensures { (op : Op) (old : Member)
+            → HasSetOut self.entry.live.now op old self.entry.seat.now resting.now room.old
+            → HasComeOut self.entry.live.now op old self.exit.0.now room.new (Changed.Ended result) }
+    {
+        let Running {
+            seat,
+            live,
+            place,
+            mark,
+        } = self;
+        let mut rested = live.resume(seat, room, resting, 1);
+        for _ in rt.forever() {
+            let resting = match rested {
+                Changed::Ended(answer) => return answer,
+                Changed::Rests(resting) => resting,
+            };
+            mark_place(live, seat, place, REST);
+            thread::yield_now();
+            mark_place(live, seat, place, next_mark(mark));
+            rested = live.resume(seat, room, &resting, 1);
+        }
+        unreachable!()
+    }
 }
 
 // The seat takes back what its operation, which has ended, hasn't used of its rows and page numbers. Its place is idle again.
