@@ -62,6 +62,17 @@ impl HeldOne {
 
 const NONE: Entry = Entry { key: 0, pointer: 0 };
 
+// The two entries of the map.
+const FIVE: Entry = Entry {
+    key: 5,
+    pointer: 50,
+};
+
+const NINE: Entry = Entry {
+    key: 9,
+    pointer: 90,
+};
+
 #[test]
 fn a_held_session_finds_as_often_as_it_likes(rt: HostRuntime) {
     let alloc = rt.alloc();
@@ -106,44 +117,26 @@ fn a_held_session_scans(rt: HostRuntime) {
     let scanned = map.scan_held(&mut held, 0, u64::MAX, &mut places);
     same(&rt, &scanned.filled, &2);
     same(&rt, &scanned.next, &None);
-    same(
-        &rt,
-        &places[0],
-        &Entry {
-            key: 5,
-            pointer: 50,
-        },
-    );
-    same(
-        &rt,
-        &places[1],
-        &Entry {
-            key: 9,
-            pointer: 90,
-        },
-    );
+    same(&rt, &places[0], &FIVE);
+    same(&rt, &places[1], &NINE);
     let scanned = map.scan_back_held(&mut held, 0, 8, &mut places);
     same(&rt, &scanned.filled, &1);
-    same(
-        &rt,
-        &places[0],
-        &Entry {
-            key: 5,
-            pointer: 50,
-        },
-    );
+    same(&rt, &places[0], &FIVE);
+}
+
+#[test]
+fn a_held_session_takes_a_snapshot(rt: HostRuntime) {
+    let alloc = rt.alloc();
+    let HeldOne {
+        map,
+        mut held,
+        other: _,
+    } = HeldOne::new(&rt, alloc);
     let entries = given(&rt, map.snapshot_held(alloc, &mut held, 6, 9, 1));
     let entries = entries.expect(&rt, "changed");
     same(&rt, &entries.len(), &1);
     let entry = entries.get(0).expect(&rt, "no entry");
-    same(
-        &rt,
-        entry,
-        &Entry {
-            key: 9,
-            pointer: 90,
-        },
-    );
+    same(&rt, entry, &NINE);
 }
 
 #[test]
