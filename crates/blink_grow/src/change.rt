@@ -43,7 +43,7 @@ impl GrowingMap {
     {
         let slot = session.slot;
         for _ in 0..RENEWALS {
-            match self.try_change(rt, session, op) {
+            match self.change_once(rt, session, op) {
                 Ok(answer) => {
                     self.count_and_renew(alloc, slot, op, answer);
                     return Ok(answer);
@@ -80,7 +80,7 @@ impl GrowingMap {
 
     // Runs an operation in the current map. `Err`, with the map's number, if the session lacks room for it there; with none, if a renewal
     // has begun before the session was taken. It would have to copy the entries again after the change.
-    fn try_change<R: Wait>(
+    fn change_once<R: Wait>(
         &self,
         rt: &R,
         session: &mut Session,

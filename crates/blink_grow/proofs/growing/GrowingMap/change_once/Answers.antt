@@ -7,7 +7,7 @@ use Rattle.blink_map.specs.declared.error.Full.{Full}
 use Rattle.blink_map.specs.{IsAnswered, IsUnchangedBy, seen_by}
 use Rattle.blink_grow.proofs.Basics.{prefix_refl}
 use Rattle.blink_grow.proofs.CallsOfSessions.{after_outcome, authors_again, can_give, first_again, has_tried, idle_again, in_order_all, key_fits, made_same, none_counted, outcome_counted, same_session, saw_more, slots_again}
-use Rattle.blink_grow.proofs.growing.GrowingMap.try_change.Goals as goal
+use Rattle.blink_grow.proofs.growing.GrowingMap.change_once.Goals as goal
 
 pub give-requires-clause-can : goal.give-requires-clause-can
 give-requires-clause-can g c =
