@@ -9,6 +9,9 @@ pub mod WalksBack
 pub mod KeysAreCopiedBack
 pub mod KeysAreMetBack
 pub mod LeavesAreCopied
+pub mod PointersAreReplaced
+pub mod RecordsReplace
+pub mod LeavesOfReplacements
 pub mod ReportsGoOn
 pub mod EntriesBehind
 pub mod LeavesAreCopiedBack

@@ -17,6 +17,7 @@ mod merge;
 mod open;
 mod operations;
 mod read;
+mod replace;
 mod retire;
 mod room;
 mod rule;

@@ -264,15 +264,23 @@ impl Live {
             × IsCopied (known_of seat.old.me.0) from (stop_of hi result.next) entries }
         ensures further { IfSome result.next (λ next. (from < next) × (next ≤ hi)) }
     {
-        if records_in(word).count == 0 {
+        let records = records_in(word);
+        if records.count == 0 {
             return self.copy_row(seat, row_in(word), from, hi, into);
+        }
+        // No record adds or removes a key, so the base has the leaf's keys. To copy it and give it the records' pointers takes less
+        // time than to sort the records and merge them with it.
+        if records.kinds == 0 {
+            let copied = self.copy_row(seat, row_in(word), from, hi, into);
+            self.replace_in(seat, word, &mut into[..copied.filled]);
+            return copied;
         }
         let newest = self.newest_records(seat, word);
         let range = KeyRange { lo: from, hi };
         self.copy_merged(seat, row_in(word), &newest, range, into)
     }
 
-    // The same of a leaf that has no records.
+    // The same of the page whose row the seat reads, without the records behind it.
     fn copy_row(
         &self,
         seat: &mut Seat<u8, View>,
@@ -283,14 +291,17 @@ impl Live {
     ) -> Scanned
         requires seat { IsPassSeat self.now seat.old.table_id seat.old.me }
         requires row { IsRowNumber self.now.counts row }
-        requires leaf { (leaf : PlainPage) × ReadsPage seat.old.me row leaf
-            × HasStates (known_of seat.old.me.0) from leaf }
+        requires leaf { (leaf : PlainPage) × ReadsPage seat.old.me row leaf × (from ≤ leaf.high) }
         requires range { from ≤ hi }
         requires some_place { 1 ≤ length into.old }
         ensures same { IsSameSeat seat.old seat.new }
-        ensures copied { (entries : List Entry) × IsFilled entries into.old into.new
-            × (result.filled ≡ length entries)
-            × IsCopied (known_of seat.old.me.0) from (stop_of hi result.next) entries }
+        ensures copied { (leaf : PlainPage) (known : ℕ → Option ℕ)
+            → ReadsPage seat.old.me row leaf
+            → HasStates known from leaf
+            → (entries : List Entry) × IsFilled entries into.old into.new
+            × (result.filled ≡ length entries) × IsCopied known from (stop_of hi result.next) entries }
+        ensures within { (leaf : PlainPage) → ReadsPage seat.old.me row leaf
+            → stop_of hi result.next ≤ leaf.high + 1 }
         ensures further { IfSome result.next (λ next. (from < next) × (next ≤ hi)) }
     {
         let start = self.row_place(row);

@@ -11,7 +11,7 @@ pub use Rattle.blink_rows.specs.Log.{AllFit, BeginsWith, Fits, IsLogged, IsLogge
 pub use Rattle.blink_rows.specs.Counts.{AreBounded, PlainCounts}
 -- ---- for proofs above
 pub use Rattle.blink_rows.specs.Row.{flag, flat}
-pub use Rattle.blink_rows.specs.Log.{log_words}
+pub use Rattle.blink_rows.specs.Log.{Finds, kind_number, kinds_behind, log_words, pointer_by}
 -- ---- files that no crate above names
 pub mod Row
 pub mod Naming

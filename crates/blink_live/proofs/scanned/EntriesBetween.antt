@@ -109,7 +109,7 @@ first_rise a b place [] rises inside = absurd (omega (arith, inside))
 first_rise a b zero ((k, v) ∷ rest) rises inside = rises.0
 first_rise a b (suc place) ((k, v) ∷ rest) rises inside = (rises.0, first_rise (k + 1) b place rest rises.1 (omega (arith, inside)))
 
-below_end : (a b place : ℕ) (pairs : List (ℕ × ℕ)) → IsRising a pairs b → place < length pairs → (get_or pairs place (0, 0)).0 < b
+pub below_end : (a b place : ℕ) (pairs : List (ℕ × ℕ)) → IsRising a pairs b → place < length pairs → (get_or pairs place (0, 0)).0 < b
 below_end a b place [] rises inside = absurd (omega (arith, inside))
 below_end a b zero ((k, v) ∷ rest) rises inside = let reach = from_at_most_to (k + 1) rest b rises.1 in omega (arith, reach)
 below_end a b (suc place) ((k, v) ∷ rest) rises inside = below_end (k + 1) b place rest rises.1 (omega (arith, inside))

@@ -8,7 +8,7 @@ use Rattle.blink_page.specs.{IsLawfulPage, PlainPage, least_above, value_at}
 use Rattle.blink_page.specs.declared.limits.TheConstants.{MAX_FAN}
 use Rattle.blink_live.specs.Scanning.{IsCopied, IsFilled}
 use Rattle.blink_live.specs.Seats.{HasStates}
-use Rattle.blink_live.proofs.scanned.EntriesBetween.{between, between_with, between_without, copied_all, copied_to_end, copied_to_hi, copied_to_place, next_is_behind}
+use Rattle.blink_live.proofs.scanned.EntriesBetween.{below_end, between, between_with, between_without, copied_all, copied_to_end, copied_to_hi, copied_to_place, next_is_behind}
 use Rattle.blink_live.proofs.scanned.PlacesAreFilled.{filled_more, filled_none}
 
 -- the slice has the first of these pairs, as far as `place`, whose keys are from `from` to `hi`
@@ -42,6 +42,12 @@ module _ (from hi : ℕ) (pairs : List (ℕ × ℕ)) (old now : List Entry) (pla
       subst (λ (es : List Entry). IsFilled es old now × (filled ≡ length es)) (sym same) was
 
 -- ---- the ends of the copy of a leaf
+
+-- no entry is behind the leaf's high key
+pub place_is_within : (leaf : PlainPage) (lawful : IsLawfulPage MAX_FAN leaf) (place key : ℕ) → place < length leaf.entries → key ≡ (get_or leaf.entries place (0, 0)).0 → key ≤ leaf.high
+place_is_within leaf lawful place key inside its_key =
+    let below = below_end (least_above leaf.floor) (leaf.high + 1) place leaf.entries lawful.keys_rise inside in
+    omega (arith, below, its_key)
 
 module _ (from hi : ℕ) (known : ℕ → Option ℕ) (leaf : PlainPage) (lawful : IsLawfulPage MAX_FAN leaf) (has : HasStates known from leaf) (old now : List Entry) (filled place : ℕ) (was : HasCopied from hi leaf.entries old place now filled) where
   abbrev pub IsCopiedTo : ℕ → Type 0

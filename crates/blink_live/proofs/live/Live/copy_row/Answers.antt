@@ -1,4 +1,4 @@
-use Rattle.std.proofs.Common.{◌≡◌, ℕ, ◌+◌, ◌<◌, Some, List, length, get_or, refl, sym, ap, ◌∙◌, subst, arith}
+use Rattle.std.proofs.Common.{◌≡◌, ℕ, ◌+◌, ◌*◌, ◌<◌, Some, List, length, get_or, refl, sym, ap, ◌∙◌, subst, arith}
 use Rattle.std.specs.Prelude.{slice_index}
 use Rattle.atomic_table.specs.declared.Seat.{Seat}
 use Rattle.blink_batch.specs.declared.Entry.{Entry}
@@ -6,10 +6,11 @@ use Rattle.blink_page.specs.{PlainPage}
 use Rattle.blink_rows.specs.{page_words}
 use Rattle.blink_live.specs.declared.view.View.{View}
 use Rattle.blink_live.specs.Seats.{ReadsPage}
-use Rattle.blink_live.specs.Views.{SeatState, known_of}
+use Rattle.blink_live.specs.Views.{SeatState}
+use Rattle.blink_live.specs.Replacing.{pointers_in}
 use Rattle.blink_live.proofs.found.FindsOfSeveral.{same_seat}
 use Rattle.blink_live.proofs.found.EntriesInRow.{key_inside, key_word, value_inside, value_word}
-use Rattle.blink_live.proofs.scanned.LeavesAreCopied.{HasCopied, copied_more, copied_none, copied_past, ends_at_hi, ends_at_high, ends_at_place, ends_with_leaf, place_is_behind}
+use Rattle.blink_live.proofs.scanned.LeavesAreCopied.{HasCopied, copied_more, copied_none, copied_past, ends_at_hi, ends_at_high, ends_at_place, ends_with_leaf, place_is_behind, place_is_within}
 use Rattle.blink_live.proofs.live.Live.copy_row.Goals.{then-key-from+else-filled-into, else-key-from}
 use Rattle.blink_live.proofs.live.Live.copy_row.Goals as goal
 
@@ -79,68 +80,108 @@ loop-place-preserved c =
 
 -- ---- the ends
 
+-- the key that was loaded is an entry's
+module _ (leaf : PlainPage) {me now : SeatState} {row : ℕ} (reads : ReadsPage me row leaf) (same : now ≡ me) (count place word : ℕ) (is_count : count ≡ length leaf.entries) (test : place < count)
+    (loads : (content : List ℕ) → now.0.reads ≡ Some (row, content) → 6 + 2 * place < length content → word ≡ slice_index content (6 + 2 * place)) where
+  there : place < length leaf.entries
+  there = omega (arith, is_count, test)
+
+  its_key : word ≡ (get_or leaf.entries place (0, 0)).0
+  its_key = its_word leaf word _ same reads loads (key_inside leaf place there) ∙ key_word leaf place _ refl
+
 pub returns-then-key-hi-clause-copied : goal.returns-then-key-hi-clause-copied
-returns-then-key-hi-clause-copied c =
-    let leaf = c.requires.leaf in
-    let same = c.loop-place.invariant.same in
-    let count = c.loop-place.invariant.count leaf.0 leaf.1 in
+returns-then-key-hi-clause-copied c leaf known reads has =
+    let count = c.loop-place.invariant.count leaf reads in
     let test = c.loop-place-test.true in
-    ends_at_hi c.args.from c.args.hi (known_of c.args.seat.now.me.0) leaf.0 leaf.1.lawful leaf.2 c.args.into.now c.loop-place.into c.loop-place.filled c.loop-place.place (c.loop-place.invariant.copied leaf.0 leaf.1) c.load_word-key.result
-    (omega (arith, count, test))
-    (its_word leaf.0 c.load_word-key.result _ same.2 leaf.1 (λ content. c.load_word-key.ensures.word c.args.row content c.row_place-start.ensures.start) (key_inside leaf.0 c.loop-place.place (omega (arith, count, test))) ∙ key_word leaf.0 c.loop-place.place _ refl)
+    let loads = λ (content : List ℕ). c.load_word-key.ensures.word c.args.row content c.row_place-start.ensures.start in
+    ends_at_hi c.args.from c.args.hi known leaf reads.lawful has c.args.into.now c.loop-place.into c.loop-place.filled c.loop-place.place (c.loop-place.invariant.copied leaf reads) c.load_word-key.result
+    (there leaf reads c.loop-place.invariant.same.2 _ _ c.load_word-key.result count test loads)
+    (its_key leaf reads c.loop-place.invariant.same.2 _ _ c.load_word-key.result count test loads)
     c.if-key-hi.true
 
-pub returns-then-filled-into-clause-copied : goal.returns-then-filled-into-clause-copied
-returns-then-filled-into-clause-copied c =
-    let leaf = c.requires.leaf in
-    let same = c.loop-place.invariant.same in
-    let count = c.loop-place.invariant.count leaf.0 leaf.1 in
+pub returns-then-key-hi-clause-within : goal.returns-then-key-hi-clause-within
+returns-then-key-hi-clause-within c leaf reads =
+    let count = c.loop-place.invariant.count leaf reads in
     let test = c.loop-place-test.true in
-    ends_at_place c.args.from c.args.hi (known_of c.args.seat.now.me.0) leaf.0 leaf.1.lawful leaf.2 c.args.into.now c.loop-place.into c.loop-place.filled c.loop-place.place (c.loop-place.invariant.copied leaf.0 leaf.1) c.load_word-key.result
-    (omega (arith, count, test))
-    (its_word leaf.0 c.load_word-key.result _ same.2 leaf.1 (λ content. c.load_word-key.ensures.word c.args.row content c.row_place-start.ensures.start) (key_inside leaf.0 c.loop-place.place (omega (arith, count, test))) ∙ key_word leaf.0 c.loop-place.place _ refl)
+    let loads = λ (content : List ℕ). c.load_word-key.ensures.word c.args.row content c.row_place-start.ensures.start in
+    let within = place_is_within leaf reads.lawful c.loop-place.place c.load_word-key.result
+    (there leaf reads c.loop-place.invariant.same.2 _ _ c.load_word-key.result count test loads)
+    (its_key leaf reads c.loop-place.invariant.same.2 _ _ c.load_word-key.result count test loads) in
+    omega (arith, within, c.if-key-hi.true)
+
+pub returns-then-filled-into-clause-copied : goal.returns-then-filled-into-clause-copied
+returns-then-filled-into-clause-copied c leaf known reads has =
+    let count = c.loop-place.invariant.count leaf reads in
+    let test = c.loop-place-test.true in
+    let loads = λ (content : List ℕ). c.load_word-key.ensures.word c.args.row content c.row_place-start.ensures.start in
+    ends_at_place c.args.from c.args.hi known leaf reads.lawful has c.args.into.now c.loop-place.into c.loop-place.filled c.loop-place.place (c.loop-place.invariant.copied leaf reads) c.load_word-key.result
+    (there leaf reads c.loop-place.invariant.same.2 _ _ c.load_word-key.result count test loads)
+    (its_key leaf reads c.loop-place.invariant.same.2 _ _ c.load_word-key.result count test loads)
     c.if-key-hi.false
+
+pub returns-then-filled-into-clause-within : goal.returns-then-filled-into-clause-within
+returns-then-filled-into-clause-within c leaf reads =
+    let count = c.loop-place.invariant.count leaf reads in
+    let test = c.loop-place-test.true in
+    let loads = λ (content : List ℕ). c.load_word-key.ensures.word c.args.row content c.row_place-start.ensures.start in
+    let within = place_is_within leaf reads.lawful c.loop-place.place c.load_word-key.result
+    (there leaf reads c.loop-place.invariant.same.2 _ _ c.load_word-key.result count test loads)
+    (its_key leaf reads c.loop-place.invariant.same.2 _ _ c.load_word-key.result count test loads) in
+    omega (arith, within)
 
 pub returns-then-filled-into-clause-further : goal.returns-then-filled-into-clause-further
 returns-then-filled-into-clause-further c =
     let leaf = c.requires.leaf in
-    let same = c.loop-place.invariant.same in
     let count = c.loop-place.invariant.count leaf.0 leaf.1 in
     let test = c.loop-place-test.true in
+    let loads = λ (content : List ℕ). c.load_word-key.ensures.word c.args.row content c.row_place-start.ensures.start in
     let full = c.if-filled-into.true in
     let some = c.requires.some_place in
     let long = c.loop-place.auto.into in (
-      place_is_behind c.args.from c.args.hi (known_of c.args.seat.now.me.0) leaf.0 leaf.1.lawful leaf.2 c.args.into.now c.loop-place.into c.loop-place.filled c.loop-place.place (c.loop-place.invariant.copied leaf.0 leaf.1) c.load_word-key.result
-          (omega (arith, count, test))
-          (its_word leaf.0 c.load_word-key.result _ same.2 leaf.1 (λ content. c.load_word-key.ensures.word c.args.row content c.row_place-start.ensures.start) (key_inside leaf.0 c.loop-place.place (omega (arith, count, test))) ∙ key_word leaf.0 c.loop-place.place _ refl)
+      place_is_behind c.args.from c.args.hi (pointers_in leaf.0) leaf.0 leaf.1.lawful (record { reaches = leaf.2; states = λ other low high. refl }) c.args.into.now c.loop-place.into c.loop-place.filled c.loop-place.place (c.loop-place.invariant.copied leaf.0 leaf.1) c.load_word-key.result
+          (there leaf.0 leaf.1 c.loop-place.invariant.same.2 _ _ c.load_word-key.result count test loads)
+          (its_key leaf.0 leaf.1 c.loop-place.invariant.same.2 _ _ c.load_word-key.result count test loads)
           (omega (arith, full, some, long)),
       c.if-key-hi.false,
     )
 
+-- the last load is that of the leaf's high key
+its_high : (leaf : PlainPage) {me now : SeatState} {row : ℕ} → ReadsPage me row leaf → now ≡ me → (word : ℕ) → ((content : List ℕ) → now.0.reads ≡ Some (row, content) → 3 < length content → word ≡ slice_index content 3) → word ≡ leaf.high
+its_high leaf reads same word loads = its_word leaf word 3 same reads loads (omega arith)
+
 pub returns-then-high-hi-clause-copied : goal.returns-then-high-hi-clause-copied
-returns-then-high-hi-clause-copied c =
-    let leaf = c.requires.leaf in
-    let count = c.loop-place.invariant.count leaf.0 leaf.1 in
+returns-then-high-hi-clause-copied c leaf known reads has =
+    let count = c.loop-place.invariant.count leaf reads in
     let test = c.loop-place-test.false in
-    ends_at_high c.args.from c.args.hi (known_of c.args.seat.now.me.0) leaf.0 leaf.1.lawful leaf.2 c.args.into.now c.loop-place.into c.loop-place.filled c.loop-place.place (c.loop-place.invariant.copied leaf.0 leaf.1) c.load_word-high.result
+    ends_at_high c.args.from c.args.hi known leaf reads.lawful has c.args.into.now c.loop-place.into c.loop-place.filled c.loop-place.place (c.loop-place.invariant.copied leaf reads) c.load_word-high.result
     (omega (arith, count, test))
-    (its_word leaf.0 c.load_word-high.result _ c.loop-place.invariant.same.2 leaf.1 (λ content. c.load_word-high.ensures.word c.args.row content c.row_place-start.ensures.start) (omega arith))
+    (its_high leaf reads c.loop-place.invariant.same.2 c.load_word-high.result (λ content. c.load_word-high.ensures.word c.args.row content c.row_place-start.ensures.start))
     c.if-high-hi.true
+
+pub returns-then-high-hi-clause-within : goal.returns-then-high-hi-clause-within
+returns-then-high-hi-clause-within c leaf reads =
+    let high = its_high leaf reads c.loop-place.invariant.same.2 c.load_word-high.result (λ content. c.load_word-high.ensures.word c.args.row content c.row_place-start.ensures.start) in
+    omega (arith, high)
 
 pub returns-then-high-hi-clause-further : goal.returns-then-high-hi-clause-further
 returns-then-high-hi-clause-further c =
     let leaf = c.requires.leaf in
-    let high : c.load_word-high.result ≡ leaf.0.high = its_word leaf.0 c.load_word-high.result _ c.loop-place.invariant.same.2 leaf.1 (λ content. c.load_word-high.ensures.word c.args.row content c.row_place-start.ensures.start) (omega arith) in
-    let reaches = leaf.2.reaches in
+    let high = its_high leaf.0 leaf.1 c.loop-place.invariant.same.2 c.load_word-high.result (λ content. c.load_word-high.ensures.word c.args.row content c.row_place-start.ensures.start) in
+    let reaches = leaf.2 in
     let test = c.if-high-hi.true in
     (omega (arith, high, reaches), omega (arith, test))
 
 pub returns-else-high-hi-clause-copied : goal.returns-else-high-hi-clause-copied
-returns-else-high-hi-clause-copied c =
-    let leaf = c.requires.leaf in
-    let count = c.loop-place.invariant.count leaf.0 leaf.1 in
+returns-else-high-hi-clause-copied c leaf known reads has =
+    let count = c.loop-place.invariant.count leaf reads in
     let test = c.loop-place-test.false in
-    ends_with_leaf c.args.from c.args.hi (known_of c.args.seat.now.me.0) leaf.0 leaf.1.lawful leaf.2 c.args.into.now c.loop-place.into c.loop-place.filled c.loop-place.place (c.loop-place.invariant.copied leaf.0 leaf.1) c.load_word-high.result
+    ends_with_leaf c.args.from c.args.hi known leaf reads.lawful has c.args.into.now c.loop-place.into c.loop-place.filled c.loop-place.place (c.loop-place.invariant.copied leaf reads) c.load_word-high.result
     (omega (arith, count, test))
-    (its_word leaf.0 c.load_word-high.result _ c.loop-place.invariant.same.2 leaf.1 (λ content. c.load_word-high.ensures.word c.args.row content c.row_place-start.ensures.start) (omega arith))
+    (its_high leaf reads c.loop-place.invariant.same.2 c.load_word-high.result (λ content. c.load_word-high.ensures.word c.args.row content c.row_place-start.ensures.start))
     c.if-high-hi.false
+
+pub returns-else-high-hi-clause-within : goal.returns-else-high-hi-clause-within
+returns-else-high-hi-clause-within c leaf reads =
+    let high = its_high leaf reads c.loop-place.invariant.same.2 c.load_word-high.result (λ content. c.load_word-high.ensures.word c.args.row content c.row_place-start.ensures.start) in
+    let test = c.if-high-hi.false in
+    omega (arith, high, test)
