@@ -1,6 +1,6 @@
 -- Lists, and functions of slots, with one place changed.
 use Rattle.std.proofs.Common.{◌≡◌, ◌≢◌, ◌⊎◌, inl, inr, ℕ, zero, suc, ◌<◌, Option, Some, None, Bool, List, [], ◌∷◌, ◌++◌, length, set, append_assoc, append-nil, refl, sym, ap, ◌∙◌, subst, ⊎_elim, get_or, get_or-set_same, get_or-set_other, eq-eqb, ne_eqb, arith}
-use Rattle.std.specs.Prelude.{slice_index, ◌==◌, if◌then◌else◌}
+use Rattle.std.specs.Prelude.{IfSome, slice_index, ◌==◌, if◌then◌else◌}
 use mathlib.Core.Option.{some, some-injective, some-ne-none}
 use mathlib.Core.List.{IsPrefix}
 use mathlib.Core.Logic.{dite}
@@ -165,3 +165,9 @@ pub some_or : {A : Type 0} (l : List A) (k : ℕ) (d : A) → k < length l → g
 some_or [] k d inside = absurd (omega (arith, inside))
 some_or (x ∷ xs) zero d inside = refl
 some_or (x ∷ xs) (suc k) d inside = some_or xs k d (omega (arith, inside))
+
+-- ---- a value that may be there
+
+pub if_some : {A : Type 0} (found : Option A) (P Q : A → Type 0) → ((a : A) → P a → Q a) → IfSome found P → IfSome found Q
+if_some (Some a) P Q on was = on a was
+if_some None P Q on was = was

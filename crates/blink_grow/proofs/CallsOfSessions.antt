@@ -26,6 +26,7 @@ use Rattle.blink_grow.specs.Counts.{made_in, made_with}
 use Rattle.blink_grow.specs.Own.{IsIdle, KnowsAuthors, own_of}
 use Rattle.blink_grow.specs.Rule.{Account, IsContinued, IsCurrentAt, IsGeneration, SlotSeat, known_of}
 use Rattle.blink_grow.specs.Steps.{CanGive, Taken, front_of, has_given, past_of, while_some, with_known}
+use Rattle.blink_grow.specs.Taking.{StaysCurrent}
 use Rattle.blink_grow.proofs.Basics.{prefix_behind, with_own}
 
 -- a key before which a scan stopped is one of 64 bits
@@ -52,6 +53,10 @@ still_its map old new its same = record { member = record { same_table = same.sa
 -- a session that may have made changes, of which so many are counted
 abbrev pub held_with : Current → MapSession → ℕ → Current
 held_with held session changes = record held { session = session; changes = changes }
+
+-- the session of the current map that a change has left
+pub moved_on : (old new : Current) → StaysCurrent old new → new ≡ held_with old new.session new.changes
+moved_on old new stays = λ i. record { map = stays.same_map i; session = new.session; number = stays.same_number i; changes = new.changes }
 
 -- the count is right after a call, if it was before
 abbrev pub IsCounted : Current → MapSession → ℕ → Type 0

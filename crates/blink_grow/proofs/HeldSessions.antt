@@ -27,8 +27,9 @@ use Rattle.blink_grow.specs.Holding.{AnswersFrom}
 use Rattle.blink_grow.specs.Own.{IsIdle, KnowsAuthors, own_in, own_of}
 use Rattle.blink_grow.specs.Rule.{Account, IsContinued, IsCurrentAt, IsGeneration, SlotSeat, known_of}
 use Rattle.blink_grow.specs.Steps.{CanGive, Taken, front_of, has_given, has_taken, past_of, while_some, with_known}
+use Rattle.blink_grow.specs.Taking.{StaysCurrent}
 use Rattle.blink_grow.proofs.Basics.{prefix_behind, with_own}
-use Rattle.blink_grow.proofs.CallsOfSessions.{IsCounted, held_with, knows_all, knows_own, none_counted, still_current, whole_list}
+use Rattle.blink_grow.proofs.CallsOfSessions.{IsCounted, held_with, knows_all, knows_own, moved_on, none_counted, still_current, whole_list}
 
 -- ---- one list goes on from another
 
@@ -228,6 +229,12 @@ module _ (slot : ℕ) (me : SlotSeat) (current : Current) (held : IsHeld slot me
     )
     answers_as_seen_whole old [] (answer ∷ answers) new fit is = is
     answers_as_seen_whole old (key ∷ keys) [] new fit is = is
+
+-- ---- an operation that is made in place
+
+module _ (slot : ℕ) (me : SlotSeat) (current : Current) (held : IsHeld slot me current) (new : Current) (stays : StaysCurrent current new) where
+  pub held_changed : IsHeld slot me new
+  held_changed = subst (IsHeld slot me) (sym (moved_on current new stays)) (held_counted slot me current held new.session new.changes stays.saw stays.same_member stays.counted)
 
 -- ---- an operation that ends after it has waited
 

@@ -1,24 +1,27 @@
--- What a seat knows that has taken the slot of its session, reads by the session there, and gives the slot back.
+-- What a seat knows that has taken the slot of its session, reads or makes a change by the session there, and gives the slot back.
 use Rattle.std.proofs.Common.{◌≡◌, ℕ, ◌<◌, Option, Some, None, List, ◌∷◌, refl, sym, ap, ◌∙◌, subst}
 use Rattle.std.specs.Prelude.{◌^◌}
 use Rattle.std.specs.Arc.{arc_value}
 use mathlib.Core.List.{IsPrefix}
 use Rattle.atomic_table.specs.Table.{rest}
+use Rattle.blink_batch.specs.declared.Answer.{Answer}
 use Rattle.blink_batch.specs.declared.Entry.{Entry}
-use Rattle.blink_batch.specs.{pointer_of}
+use Rattle.blink_batch.specs.declared.Op.{Op}
+use Rattle.blink_batch.specs.{key_of, pointer_of}
 use Rattle.blink_live.specs.{IsReport, IsReportBack, IsSnapshot, after}
 use Rattle.blink_map.specs.declared.map.Map.{Map}
 use Rattle.blink_map.specs.declared.map.Session.{Session as MapSession}
-use Rattle.blink_map.specs.{IsSameBesideSeen as SeesMoreInMap, IsSessionOf as IsSessionIn, opening_of, seen_by}
+use Rattle.blink_map.specs.{AnswersInOrder as AnswersInMap, IsSameBesideSeen as SeesMoreInMap, IsSessionOf as IsSessionIn, made_by, opening_of, seen_by}
 use Rattle.blink_grow.specs.declared.growing.Session.{Session}
 use Rattle.blink_grow.specs.declared.slots.Current.{Current}
 use Rattle.blink_grow.specs.declared.slots.Known.{Known}
+use Rattle.blink_grow.specs.Holding.{AnswersFrom}
 use Rattle.blink_grow.specs.Own.{IsIdle, own_of}
-use Rattle.blink_grow.specs.Rule.{SlotSeat, known_of}
+use Rattle.blink_grow.specs.Rule.{IsContinued, SlotSeat, known_of}
 use Rattle.blink_grow.specs.Sessions.{IsSameBesideSeen}
 use Rattle.blink_grow.specs.Steps.{CanGive, Taken, has_given, past_of}
-use Rattle.blink_grow.specs.Taking.{HasOwnSlot, HasTakenSlot, IsIdleAgain}
-use Rattle.blink_grow.proofs.CallsOfSessions.{authors_again, can_give, first_again, held_with, idle_again, made_same, none_counted, report_all, report_back_all, saw_more, slots_again, snapshot_all, tells}
+use Rattle.blink_grow.specs.Taking.{HasOwnSlot, HasTakenSlot, IsGivenBack, IsIdleAgain, StaysCurrent}
+use Rattle.blink_grow.proofs.CallsOfSessions.{authors_again, can_give, first_again, held_with, idle_again, in_order_all, made_same, moved_on, none_counted, report_all, report_back_all, saw_more, slots_again, snapshot_all, tells}
 use Rattle.blink_grow.proofs.OutSlots.{first_is_full, head_rest, taken_out}
 
 -- ---- the slot isn't empty
@@ -29,7 +32,7 @@ own_out slot me own = head_rest slot (Some own.taken.0) me.1 own.before.1 (ap (�
 pub not_empty : (slot : ℕ) (me : SlotSeat) (own : HasOwnSlot slot me) (found : Option Current) → me.1 ≡ (slot, found) ∷ rest me.1 → found ≡ None → ⊥
 not_empty slot me own found there is = first_is_full slot own.taken.0 found (rest me.1) (rest me.1) (sym (own_out slot me own) ∙ there) is
 
--- ---- a read by the session in the slot
+-- ---- the session in the slot
 
 module _ (slot : ℕ) (me : SlotSeat) (own : HasOwnSlot slot me) (found : Option Current) (current : Current) (there : me.1 ≡ (slot, found) ∷ rest me.1) (is : found ≡ Some current) where
   -- as if the session were out of the slot
@@ -50,6 +53,8 @@ module _ (slot : ℕ) (me : SlotSeat) (own : HasOwnSlot slot me) (found : Option
 
   knows_same : own_of me.0 ≡ own_of own.before.0
   knows_same = ap (λ (m : SlotSeat). own_of m.0) own.taken.1.is
+
+  -- ---- a read by it
 
   module _ (session : MapSession) (same : SeesMoreInMap current.session session) where
     pub can_give_then : CanGive slot emptied (held_with current session current.changes)
@@ -82,6 +87,37 @@ module _ (slot : ℕ) (me : SlotSeat) (own : HasOwnSlot slot me) (found : Option
 
         pub snapshot_then : (lo hi : ℕ) (entries : List Entry) → hi < 2 ^ 64 → IsSnapshot (opening_of (arc_value current.map)) (seen_by session) lo hi entries → IsSnapshot first (own_of after_me.0).seen lo hi entries
         snapshot_then = snapshot_all slot own.before emptied current own.idle taken_then session current.changes same.same_member (none_counted current session same.made) after_me given_is first (sym first_same ∙ same_first)
+
+  -- ---- a change by it
+
+  module _ (new : Current) (stays : StaysCurrent current new) where
+    can_give_with : CanGive slot emptied (held_with current new.session new.changes)
+    can_give_with = can_give slot own.before emptied current own.idle taken_then new.session new.changes stays.same_member stays.counted stays.saw
+
+    pub can_give_changed : CanGive slot emptied new
+    can_give_changed = subst (CanGive slot emptied) (sym (moved_on current new stays)) can_give_with
+
+    module _ (after_me : SlotSeat) (given_is : after_me ≡ (has_given me.0 slot (known_of (past_of me.0.now) slot new), rest me.1)) where
+      pub given_back : IsGivenBack slot me after_me
+      given_back = record {
+        idle = idle_again slot own.before emptied current own.idle taken_then new.session new.changes stays.same_member stays.counted after_me given_is;
+        authors = authors_again slot own.before emptied current own.idle taken_then new.session new.changes stays.same_member stays.counted after_me given_is;
+        same_first = first_again slot own.before emptied current own.idle taken_then new.session new.changes stays.same_member stays.counted after_me given_is ∙ sym first_same;
+        same_slots = slots_again slot own.before emptied current own.idle taken_then new.session new.changes stays.same_member stays.counted after_me given_is ∙ sym slots_same;
+      }
+
+      pub continues : made_by new.session ≡ made_by current.session → IsContinued (own_of me.0) (own_of after_me.0)
+      continues same_made = subst (λ (k : Known). IsContinued k (own_of after_me.0)) (sym knows_same) (record {
+        saw = saw_more slot own.before emptied current own.idle taken_then new.session new.changes stays.same_member stays.counted after_me given_is stays.saw;
+        made = sym (made_same slot own.before emptied current own.idle taken_then new.session new.changes stays.same_member stays.counted after_me given_is same_made);
+      })
+
+      pub answers_then : (first : List Entry) → me.0.first ≡ first → (op : Op) → key_of op < 2 ^ 64 → (answer : Answer) → AnswersInMap (opening_of (arc_value current.map)) op current.session.member new.session.member answer
+          → AnswersFrom first op slot (own_of me.0) (own_of after_me.0) answer
+      answers_then first same_first op inside answer i =
+          let all = in_order_all slot own.before emptied current own.idle taken_then new.session new.changes stays.same_member stays.counted after_me given_is first (sym first_same ∙ same_first) op inside answer i in
+          subst (λ (k : Known). AnswersFrom first op slot k (own_of after_me.0) answer) (sym knows_same)
+          (record { before = all.0; saw = all.1; answers = all.2; goes_on = all.3; made = all.4 })
 
 -- ---- a session of which the seat took the slot, and gave it back
 

@@ -1,15 +1,18 @@
-//! Reads by a session in its slot, where it stays: a seat has taken the slot, and gives it back.
-ghost use Rattle.std.specs.Prelude.{◌≡◌, ◌≤◌, ◌<◌, IfOk, IfSome, drop, length, take};
-ghost use Rattle.blink_batch.specs.{pointer_of};
+//! Reads and changes by a session in its slot, where it stays: a seat has taken the slot, and gives it back.
+ghost use Rattle.std.specs.Prelude.{◌≡◌, ◌≤◌, ◌<◌, IfOk, IfSome, IsNone, drop, length, take};
+ghost use Rattle.blink_batch.specs.{FitsWords, pointer_of};
 ghost use Rattle.blink_live.specs.{IsReport, IsReportBack, IsSnapshot, StoppedFull, after, start_of, stop_of};
+ghost use Rattle.blink_machine.specs.{IsUpdate};
+ghost use Rattle.blink_grow.specs.Holding.{AnswersFrom};
 ghost use Rattle.blink_grow.specs.Own.{own_of};
+ghost use Rattle.blink_grow.specs.Rule.{IsContinued};
 ghost use Rattle.blink_grow.specs.Sessions.{opening_of};
-ghost use Rattle.blink_grow.specs.Taking.{HasOwnSlot, IsIdleAgain};
+ghost use Rattle.blink_grow.specs.Taking.{HasOwnSlot, IsGivenBack, IsIdleAgain};
 
 use crate::growing::GrowingMap;
 use crate::slots::{Current, SlotView};
 use atomic_table::Seat;
-use blink_batch::Entry;
+use blink_batch::{Answer, Entry, Op};
 use blink_live::Scanned;
 use std::alloc::{AllocError, Global};
 
@@ -124,5 +127,35 @@ impl GrowingMap {
             .snapshot(alloc, &mut current.session, lo, hi, tries);
         self.give_back(seat, slot);
         found
+    }
+
+    // Runs an operation that changes the map by the session in its slot, if it can be made at once, and gives the slot back. There is no
+    // answer, if the session lacks room for it in the current map, or if it was given up.
+    pub(crate) fn change_in_place(
+        &self,
+        seat: &mut Seat<Option<Current>, SlotView>,
+        slot: usize,
+        op: Op,
+        tries: u32,
+    ) -> Option<Answer>
+        requires its_own { seat.old.table_id ≡ self.now.table.shared.table_id }
+        requires in_range { slot < seat.old.table_id.slots }
+        requires same_first { seat.old.me.0.first ≡ opening_of self.now }
+        requires taken { HasOwnSlot slot seat.old.me }
+        requires updates { IsUpdate op }
+        requires fits { FitsWords op }
+        ensures same { seat.new.table_id ≡ seat.old.table_id }
+        ensures back { IsGivenBack slot seat.old.me seat.new.me }
+        ensures answered { IfSome result (AnswersFrom (opening_of self.now) op slot
+            (own_of seat.old.me.0) (own_of seat.new.me.0)) }
+        ensures unchanged { IsNone result
+            → IsContinued (own_of seat.old.me.0) (own_of seat.new.me.0) }
+    {
+        let Some(current) = seat.slot_mut(&self.table.shared, slot) else {
+            unreachable!()
+        };
+        let given = current.try_change(op, tries);
+        self.give_back(seat, slot);
+        given
     }
 }

@@ -32,6 +32,7 @@ mod slots;
 mod snapshot;
 mod start;
 mod tell;
+mod try_change;
 mod try_reads;
 mod waiting;
 mod worn;

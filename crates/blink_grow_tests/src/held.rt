@@ -4,7 +4,7 @@ ghost use Rattle.blink_batch.specs.{FitsWords};
 ghost use Rattle.blink_grow.specs.{IsHeldOf, IsSessionOf, IsUpdate, map_at};
 
 use crate::same::{given, same, same_for};
-use crate::shared::{close, last};
+use crate::shared::{Single, close, last};
 use blink_batch::{Answer, Entry, Op};
 use blink_grow::{GrowError, GrowingMap, Held, Places, Session, StoppedHeld};
 use std::alloc::Global;
@@ -103,6 +103,20 @@ fn operations_of_a_held_session_answer(rt: HostRuntime) {
     let mut session = map.release(held);
     same(&rt, &map.find(&rt, &mut session, 9), &Some(90));
     same(&rt, &map.find(&rt, &mut session, 5), &None);
+}
+
+#[test]
+fn operations_are_made_where_the_session_is(rt: HostRuntime) {
+    let alloc = rt.alloc();
+    let Single { map, mut session } = given(&rt, Single::new(&rt, alloc));
+    let answer = map.try_change(&mut session, Op::Insert(5, 50), TRIES);
+    same(&rt, &answer, &Some(Answer::Inserted));
+    let mut held = map.hold(&rt, session);
+    let answer = map.try_change_held(&mut held, Op::Replace(5, 51), TRIES);
+    same(&rt, &answer, &Some(Answer::Replaced(50)));
+    same(&rt, &map.find_held(&mut held, 5), &Some(51));
+    let mut session = map.release(held);
+    same(&rt, &map.find(&rt, &mut session, 5), &Some(51));
 }
 
 #[test]

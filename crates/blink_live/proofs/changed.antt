@@ -22,3 +22,4 @@ pub mod PlacesAreMarked
 pub mod RoomComesBack
 pub mod PoolIsDrawn
 pub mod OperationsRest
+pub mod OperationsAreGivenUp

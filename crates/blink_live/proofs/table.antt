@@ -20,3 +20,4 @@ pub mod LooksStay
 pub mod VersionsOfPages
 pub mod RowsAreNamed
 pub mod LeavesStayInChain
+pub mod WithoutAnOperation

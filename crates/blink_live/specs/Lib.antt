@@ -45,7 +45,7 @@ pub use Rattle.blink_live.specs.Rule.{IsTable, IsTableAt}
 pub use Rattle.blink_live.specs.AtomicSteps.{Draws, LooksUp, draws_pages, draws_rows, marks_place}
 pub use Rattle.blink_live.specs.Spares.{spare_on}
 pub use Rattle.blink_live.specs.Seats.{HasSameNumber, IsIdleIn, IsPassSeat, IsSameSeat}
-pub use Rattle.blink_live.specs.Updating.{HasEnded, HasRowsFor, IsUnderWay}
+pub use Rattle.blink_live.specs.Updating.{HasDecided, HasEnded, HasRowsFor, IsUnderWay, decided, not_yet}
 pub use Rattle.blink_live.specs.Straight.{HasCome}
 pub use Rattle.blink_live.specs.Pendings.{for_latch, for_level}
 pub use Rattle.blink_live.specs.Finding.{AreFound, HasSearched, IsIdle}
@@ -55,6 +55,7 @@ pub use Rattle.blink_live.specs.Laid.{IsLaid}
 pub use Rattle.blink_live.specs.Leaves.{KeepsLeaves}
 pub use Rattle.blink_live.specs.Renumbered.{numbers_from}
 pub use Rattle.blink_live.specs.GivingBack.{CanGiveBack, gives_back}
+pub use Rattle.blink_live.specs.GivingUp.{HasGivenUp, gives_up}
 -- ---- files that no crate above names
 pub mod Handles
 pub mod Changes
@@ -95,4 +96,5 @@ pub mod ToCome
 pub mod Leaves
 pub mod Renumbered
 pub mod GivingBack
+pub mod GivingUp
 pub mod Additions

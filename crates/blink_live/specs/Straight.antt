@@ -1,5 +1,5 @@
 -- An operation on the straight path: it changes a leaf and splits nothing, and no value of its machine is made.
-use Rattle.std.specs.Prelude.{◌≡◌, ℕ, ◌≤◌, Option, Some, None, length, reverse, get_or}
+use Rattle.std.specs.Prelude.{◌≡◌, ℕ, ◌<◌, ◌≤◌, Option, Some, None, length, reverse, get_or}
 use Rattle.atomic_table.specs.declared.Seat.{Seat}
 use Rattle.blink_batch.specs.{answer_at, key_of}
 use Rattle.blink_batch.specs.declared.Answer.{Answer}
@@ -109,6 +109,8 @@ pub record NeedsWhole (live : Live) (op : Op) (descent : Descent) (first seat : 
   pub in_range : IsRowNumber live.counts (row_in word)
   pub readable : IsReadable (holding live.fan op descent) page
   pub only : (other : PlainMachine) → SeesPage (holding live.fan op descent) descent.leaf page other → other ≡ after
+  pub splits : after ≡ at_leaf live.fan op descent (SplitNew descent.leaf page) None
+  pub leaf_in_range : descent.leaf < live.counts.numbers
   pub under_way : IsUnderWay live op first seat after room
 
 -- the operation has read its leaf, and this is what it makes of it

@@ -9,6 +9,7 @@ mod deal;
 mod descent;
 mod error;
 mod find_all;
+mod give_up;
 mod hand;
 mod keys;
 mod leaves;

@@ -250,6 +250,16 @@ impl Play<u8, View> for GiveBack {
     ghost then = { giving_back };
 }
 
+/// The load of the prime block's page word by a seat that gives its operation up, or the store of 0 in the latch word of the page that
+/// this operation has latched.
+pub struct GiveUp;
+
+impl Play<u8, View> for GiveUp {
+    ghost use Rattle.blink_live.specs.GivingUp.{giving_up};
+
+    ghost then = { giving_up };
+}
+
 /// The load of the prime block's page word by a session whose taken-out rows begin to wait.
 pub struct BeginWait;
 

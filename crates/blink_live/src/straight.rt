@@ -163,7 +163,7 @@ impl Live {
     }
 
     // Takes a new operation to the leaf of its key.
-    fn set_off(&self, seat: &mut Seat<u8, View>, room: &Room, op: Op) -> Descent
+    pub(crate) fn set_off(&self, seat: &mut Seat<u8, View>, room: &Room, op: Op) -> Descent
         requires seat { IsPassSeat self.now seat.old.table_id seat.old.me }
         requires idle { seat.old.me.0.operation ≡ None }
         requires fits { FitsWords op }
@@ -216,7 +216,7 @@ impl Live {
 
     // Takes an operation that wants its leaf's latch through its change of the leaf. Where the leaf is full, the operation still
     // holds its latch afterwards.
-    fn change_leaf(
+    pub(crate) fn change_leaf(
         &self,
         seat: &mut Seat<u8, View>,
         room: &mut Room,

@@ -406,7 +406,7 @@ impl Live {
     }
 
     // The place of the page's latch word.
-    fn latch_place(&self, number: u32) -> usize
+    pub(crate) fn latch_place(&self, number: u32) -> usize
         requires in_range { number < self.now.counts.numbers }
         ensures { result ≡ self.now.counts.numbers + number }
     {

@@ -5,6 +5,7 @@ mod RoomOfMembers
 mod MembersComeBack
 mod OperationsRest
 mod OperationsStart
+mod OperationsAreGivenUp
 mod PendingsGoOn
 pub mod PendingsAreSent
 pub mod SettledMapsAreSent

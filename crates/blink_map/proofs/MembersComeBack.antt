@@ -1,5 +1,6 @@
 -- A member whose operation has ended is idle again.
-use Rattle.std.proofs.Common.{◌≡◌, ℕ, ◌+◌, ◌<◌, ◌≤◌, Some, None, [], sym, ap, ◌∙◌, arith}
+use Rattle.std.proofs.Common.{◌≡◌, ℕ, ◌+◌, ◌<◌, ◌≤◌, Some, None, List, [], sym, ap, ◌∙◌, subst, arith}
+use mathlib.Core.List.{IsPrefix}
 use Rattle.atomic_table.specs.declared.Seat.{Seat}
 use Rattle.blink_batch.specs.declared.Answer.{Answer}
 use Rattle.blink_batch.specs.declared.Op.{Op}
@@ -10,12 +11,14 @@ use Rattle.blink_live.specs.declared.live.Live.{Live}
 use Rattle.blink_live.specs.declared.room.Room.{Room as CallRoom}
 use Rattle.blink_live.specs.declared.view.Plan.{Plan}
 use Rattle.blink_live.specs.declared.view.Role.TheVariants.{Pass}
+use Rattle.blink_live.specs.declared.view.Change.{Change}
+use Rattle.blink_live.specs.declared.view.Share.{Share}
 use Rattle.blink_live.specs.declared.view.View.{View}
-use Rattle.blink_live.specs.{CanGiveBack, HasEnded, HasSameNumber, IsCommon, IsPassSeat, IsShelved, SeatState, gives_back, is_busy, pages_of, rows_of, span}
+use Rattle.blink_live.specs.{CanGiveBack, HasDecided, HasEnded, HasSameNumber, IsCommon, IsPassSeat, IsShelved, SeatState, decided, gives_back, gives_up, is_busy, not_yet, pages_of, rows_of, span}
 use Rattle.blink_live.proofs.Offered.{shelved_so}
 use Rattle.blink_live.proofs.Offered.{at_end, few_taken, is_its_seat}
 use Rattle.blink_map.specs.declared.member.Member.{Member}
-use Rattle.blink_map.specs.Changing.{HasChanged, HasSetOut}
+use Rattle.blink_map.specs.Changing.{HasChanged, HasOnlySeen, HasSetOut}
 use Rattle.blink_map.specs.Places.{IsMemberOf}
 use Rattle.blink_map.proofs.ChangesOfMembers.{can_give_back, few_pages, few_rows, in_order, pages_back, pages_stop, rows_back, rows_stop, used}
 
@@ -32,6 +35,11 @@ pub record IsIdleAgain (old : Member) (room : CallRoom) (seat : Seat ℕ View) :
   pub idle : seat.me.0.operation ≡ None
   pub no_slot : seat.me.1 ≡ []
   pub shelved : IsShelved room.shelf seat.me.0
+
+-- an operation that has answered nothing has changed nothing
+undecided : {op : Op} {first v : View} {m : PlainMachine} → HasDecided op first v m → m.answer ≡ None → v.share ≡ first.share
+undecided (not_yet none same) undone = same
+undecided (decided answers) undone = absurd (let is = answers.answers in cc)
 
 module _ {live : Live} {op : Op} {old : Member} {seat : Seat ℕ View} {m : PlainMachine} {room : CallRoom} (out : HasSetOut live op old seat m room) where
   begun : out.first.me.0 ≡ is_busy old.seat.me.0 out.mark
@@ -130,3 +138,59 @@ module _ {live : Live} {op : Op} {old : Member} {seat : Seat ℕ View} {m : Plai
           same_place = ap (λ (v : View). v.place) now ∙ (sym place_then ∙ old.place_is.0);
         };
       }
+
+  -- ---- the same of an operation that was given up
+
+  module _ (undone : m.answer ≡ None) (left : Seat ℕ View) (same_left : HasSameNumber seat left) (idle : left.me ≡ (gives_up seat.me.0, seat.me.1)) where
+    same_share : seat.me.0.share ≡ out.first.me.0.share
+    same_share = undecided out.under_way.updating.has_decided undone
+
+    pub left_seat : IsPassSeat live left.table_id left.me
+    left_seat = record {
+      same_table = same_left.0 ∙ its_seat.same_table;
+      same_plan = ap (λ (x : SeatState). x.0.plan) idle ∙ its_seat.same_plan;
+      role = ap (λ (x : SeatState). x.0.role) idle ∙ its_seat.role;
+    }
+
+    pub left_gives : CanGiveBack left.me.0
+    left_gives = subst (λ (x : SeatState). CanGiveBack x.0) (sym idle) (record { rows = gives.rows; pages = gives.pages })
+
+    pub left_idle : left.me.0.operation ≡ None
+    left_idle = ap (λ (x : SeatState). x.0.operation) idle
+
+    pub left_place : IsMemberOf live old → (old.place ≡ left.me.0.place) × (old.place < live.places)
+    left_place its = (place_then ∙ sym (ap (λ (x : SeatState). x.0.place) idle), (its_place its).1)
+
+    module _ (new : Seat ℕ View) (back : new.me ≡ (is_busy (gives_back left.me.0) 0, left.me.1)) where
+      now : new.me.0 ≡ is_busy (gives_back (gives_up seat.me.0)) 0
+      now = ap (λ (x : SeatState). x.0) back ∙ ap (λ (x : SeatState). is_busy (gives_back x.0) 0) idle
+
+      pub is_idle_given_up : IsIdleAgain old room new
+      is_idle_given_up =
+          let same_places : new.me.0.plan.places ≡ old.seat.me.0.plan.places = ap (λ (v : View). v.plan.places) now ∙ ap (λ (p : Plan). p.places) plan_then in
+          let inside = old.place_is.1 in
+          let common = old.common in record {
+            rows_are = (λ i. span (rows_back out.under_way i) (stop_of_rows i)) ∙ sym (ap (λ (v : View). v.rows) now);
+            pages_are = (λ i. span (pages_back out.under_way i) (stop_of_pages i)) ∙ sym (ap (λ (v : View). v.pages) now);
+            place_is = (place_then ∙ sym (ap (λ (v : View). v.place) now), omega (arith, inside, same_places));
+            in_order = (rows_in_order, pages_in_order);
+            role_is = ap (λ (v : View). v.role) now ∙ ((used out.under_way).role ∙ (ap (λ (v : View). v.role) begun ∙ old.role_is));
+            common = omega (arith, common, same_places);
+            no_key = ap (λ (v : View). v.share.keys) now ∙ (ap (λ (s : Share). s.keys) same_share ∙ (ap (λ (v : View). v.share.keys) begun ∙ old.no_key));
+            none_told = ap (λ (v : View). v.told) now ∙ ((used out.under_way).told ∙ (ap (λ (v : View). v.told) begun ∙ old.none_told));
+            idle = ap (λ (v : View). v.operation) now;
+            no_slot = ap (λ (x : SeatState). x.1) back ∙ (ap (λ (x : SeatState). x.1) idle ∙ (out.under_way.updating.same.1 ∙ (ap (λ (x : SeatState). x.1) out.marked ∙ old.no_slot)));
+            shelved = shelved_so room.shelf seat.me.0 new.me.0 (ap (λ (v : View). v.plan) now) (ap (λ (v : View). v.stock) now) out.under_way.shelved;
+          }
+
+    pub has_only_seen : (new : Member) → HasSameNumber left new.seat → new.seat.me ≡ (is_busy (gives_back left.me.0) 0, left.me.1) → HasOnlySeen old new
+    has_only_seen new same back =
+        let at = now new.seat back in record {
+          saw = subst (λ (t : List Change × List Change). IsPrefix t.0 t.1) (λ i. (ap (λ (v : View). v.seen) begun i, sym (ap (λ (v : View). v.seen) at) i)) out.under_way.updating.saw;
+          made = ap (λ (v : View). v.share.changes) at ∙ (ap (λ (s : Share). s.changes) same_share ∙ ap (λ (v : View). v.share.changes) begun);
+          same_member = record {
+            same_table = same.0 ∙ (same_left.0 ∙ (out.under_way.same_number.0 ∙ out.same_number.0));
+            same_plan = ap (λ (v : View). v.plan) at ∙ plan_then;
+            same_place = ap (λ (v : View). v.place) at ∙ (sym place_then ∙ old.place_is.0);
+          };
+        }

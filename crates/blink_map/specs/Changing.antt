@@ -1,5 +1,6 @@
 -- What an operation that changes the tree makes of a member.
-use Rattle.std.specs.Prelude.{◌≡◌, ℕ, ◌+◌, ◌≤◌, Some}
+use Rattle.std.specs.Prelude.{◌≡◌, ℕ, ◌+◌, ◌≤◌, Option, Some, None}
+use mathlib.Core.List.{IsPrefix}
 use Rattle.atomic_table.specs.declared.Seat.{Seat}
 use Rattle.blink_batch.specs.declared.Answer.{Answer}
 use Rattle.blink_batch.specs.declared.Op.{Op}
@@ -21,6 +22,17 @@ pub record HasChanged (live : Live) (op : Op) (old new : Member) (answer : Answe
   pub rows : (new.rows.stop ≡ old.rows.stop) × (new.rows.next ≤ old.rows.next + rows_of op)
   pub pages : (new.pages.stop ≡ old.pages.stop) × (new.pages.next ≤ old.pages.next + pages_of op)
   pub same_member : IsSameMember old new
+
+-- the operation was given up: the member has made no change, and may have seen more
+pub record HasOnlySeen (old new : Member) : Type 0 where
+  pub saw : IsPrefix (seen_of_member old) (seen_of_member new)
+  pub made : made_by_member new ≡ made_by_member old
+  pub same_member : IsSameMember old new
+
+-- the operation has answered, or it was given up
+abbrev pub HasTurnedOut : Live → Op → Member → Member → Option Answer → Type 0
+HasTurnedOut live op old new (Some answer) = HasChanged live op old new answer
+HasTurnedOut live op old new None = HasOnlySeen old new
 
 -- the rows that a member has in all, those that are on their way back too; and those that it may write now
 abbrev pub rows_in_all : Member → ℕ

@@ -29,6 +29,7 @@ mod start;
 mod steps;
 mod stock;
 mod tell;
+mod try_change;
 mod unclosed;
 mod waiting;
 mod words;

@@ -40,4 +40,6 @@ mod story;
 #[cfg(test)]
 mod threads;
 #[cfg(test)]
+mod trying;
+#[cfg(test)]
 mod words;

@@ -1,5 +1,5 @@
 -- What a session knows goes on from call to call.
-use Rattle.std.proofs.Common.{◌≡◌, ◌∙◌, ◌||◌, Bool, IfSome, IsTrue, false, true, Option, Some, None, is_some, is_none, List, ◌++◌, append_assoc, append-nil, [], ap, inl, inr, refl, sym, subst}
+use Rattle.std.proofs.Common.{Result, Ok, Err, IfErr, OnOk, ◌≡◌, ◌∙◌, ◌||◌, Bool, IfSome, IsTrue, false, true, Option, Some, None, is_some, is_none, List, ◌++◌, append_assoc, append-nil, [], ap, inl, inr, refl, sym, subst}
 use mathlib.Core.List.{IsPrefix}
 use Rattle.std.specs.Arc.{arc_value}
 use Rattle.std.specs.declared.alloc.Global.{Global}
@@ -13,16 +13,18 @@ use Rattle.blink_grow.specs.declared.growing.GrowingMap.{GrowingMap}
 use Rattle.blink_grow.specs.declared.growing.Session.{Session}
 use Rattle.blink_grow.specs.declared.held.Held.{Held}
 use Rattle.blink_grow.specs.declared.slots.Known.{Known}
-use Rattle.blink_grow.specs.{AnswersFrom, HasSamePlace, HasSameSlot, IsAnsweredHeld, IsContinued, IsHeldOf, IsHeldOn, IsRefusalOf, IsSameBesideSeen, IsSameSession, IsSessionOf, held_of, is_fixed, known_by, known_to, opening_of, place_of_held}
+use Rattle.blink_grow.specs.{AnswersFrom, HasSamePlace, HasSameSlot, IsAnswered, IsAnsweredHeld, IsContinued, IsHeldOf, IsHeldOn, IsRefusalOf, IsSameBesideSeen, IsSameSession, IsSessionOf, held_of, is_fixed, known_by, known_to, opening_of, place_of, place_of_held}
 use Rattle.blink_owners.specs.declared.map_refusal.MapRefusal.{MapRefusal}
 use Rattle.blink_owners.specs.declared.map_refusal.MapRefusal.TheVariants as refused
+use Rattle.blink_owners.specs.declared.session_owner.NotMade.{NotMade}
+use Rattle.blink_owners.specs.declared.session_owner.NotMade.TheVariants.{Full, Refused}
 use Rattle.blink_owners.specs.declared.session_owner.SessionOwner.{SessionOwner}
 use Rattle.blink_owners.specs.declared.session_owner.UnderWay.{UnderWay}
 use Rattle.blink_owners.specs.declared.shared_map.SharedMap.{SharedMap}
 use Rattle.blink_owners.specs.MapCodes.{refusal_of}
 use Rattle.blink_owners.specs.declared.raw.RawAnswer.{RawAnswer}
 use Rattle.blink_owners.specs.Raw.{raw_answer}
-use Rattle.blink_owners.specs.Sessions.{Answers, HasAnswered, IsAtHand, IsAway, IsChangeRefusal, IsEmpty, IsGripped, IsOwnSession, IsOfSame, IsRested, IsShortage, IsTakenOut, IsUnderWayIn, KnowsSame, SeesMore, StaysAtHand, in_map, known_in, known_of, place_among, place_in}
+use Rattle.blink_owners.specs.Sessions.{Answers, HasAnswered, IsAtHand, IsAway, IsChangeRefusal, IsEmpty, IsGripped, IsNotMade, IsOwnSession, IsOfSame, IsRested, IsShortage, IsTakenOut, IsUnderWayIn, IsUntouched, KnowsSame, SeesMore, StaysAtHand, in_map, known_in, known_of, place_among, place_in}
 
 pub prefix_through : {A : Type 0} (old mid new : List A) → IsPrefix old mid → IsPrefix mid new → IsPrefix old new
 prefix_through {A} old mid new one other = (one.0 ++ other.0, sym (append_assoc old one.0 other.0) ∙ (ap (λ (l : List A). l ++ other.0) one.1 ∙ other.1))
@@ -108,6 +110,22 @@ module _ (old : SessionOwner) (its : IsOwnSession old) where
       knows = subst (λ (known : Known). IsContinued known (known_to now)) (sym was_free) (record { saw = same.saw; made = sym same.made });
     }
 
+    pub answers_free : (op : Op) (answer : Answer) → IsAnswered (in_map old) op before now answer → Answers op old free_now (raw_answer answer)
+    answers_free op answer answered =
+        let i = answered.in_order in
+        let here : AnswersFrom (opening_of (in_map old)) op (place_of before) (known_to before) (known_to now) answer =
+        record { before = i.before; saw = i.saw; answers = i.answers; goes_on = i.goes_on; made = i.made } in
+        record {
+          was = free_idle;
+          ended = record {
+            at_hand = free_idle;
+            answer = answer;
+            its_answer = refl;
+            in_order = subst (λ (x : ℕ × Known). AnswersFrom (opening_of (in_map old)) op x.0 x.1 (known_to now) answer) (λ i. (sym (λ j. place_among (is j) old.held old.under_way) i, sym was_free i)) here;
+            same = record { same_map = refl; same_number = refl; same_place = free_place answered.same_slot };
+          };
+        }
+
     pub away_free : IsSameSession before now → IsAway old free_now refused.Busy
     away_free same = record {
       stays = record {
@@ -130,13 +148,27 @@ module _ (old : SessionOwner) (its : IsOwnSession old) where
     pub held_knows : known_in held_now ≡ known_by now
     held_knows = λ i. known_of (not_free i) (Some now) old.under_way
 
+    was_held_at : place_in old ≡ place_of_held before
+    was_held_at = λ i. place_among (not_free i) (is i) old.under_way
+
+    held_place : HasSamePlace before.seat before.slot now.seat now.slot → place_in held_now ≡ place_in old
+    held_place same = (λ i. place_among (not_free i) (Some now) old.under_way) ∙ (same.same_place ∙ sym was_held_at)
+
+    pub answers_held : (op : Op) (answer : Answer) → IsAnsweredHeld (in_map old) op before now answer → Answers op old held_now (raw_answer answer)
+    answers_held op answer answered = record {
+      was = held_idle;
+      ended = record {
+        at_hand = held_idle;
+        answer = answer;
+        its_answer = refl;
+        in_order = subst (λ (x : ℕ × Known × Known). AnswersFrom (opening_of (in_map old)) op x.0 x.1 x.2 answer) (λ i. (sym was_held_at i, sym was_held i, sym held_knows i)) answered.in_order;
+        same = record { same_map = refl; same_number = refl; same_place = held_place answered.same_place };
+      };
+    }
+
     pub sees_held : IsHeldOn before now → SeesMore old held_now
     sees_held on = record {
-      same = record {
-        same_map = refl;
-        same_number = refl;
-        same_place = (λ i. place_among (not_free i) (Some now) old.under_way) ∙ (on.same_place.same_place ∙ sym (λ i. place_among (not_free i) (is i) old.under_way));
-      };
+      same = record { same_map = refl; same_number = refl; same_place = held_place on.same_place };
       at_hand = record { was = held_idle; is = held_idle };
       knows = subst (λ (x : Known × Known). IsContinued x.0 x.1) (λ i. (sym was_held i, sym held_knows i)) on.knows;
     }
@@ -147,6 +179,19 @@ module _ (old : SessionOwner) (its : IsOwnSession old) where
     stays = record { same = record { same_map = refl; same_number = refl; same_place = refl }; knows = refl };
     why = inr (refl, busy old.under_way (sym (λ i. is_some (not_free i) || is_some (not_held i)) ∙ its.one), refl);
   }
+
+-- what is said of an answer that may be there
+pub if_some : {A : Type 0} (found : Option A) (P Q : A → Type 0) → ((a : A) → P a → Q a) → IfSome found P → IfSome found Q
+if_some (Some a) P Q on was = on a was
+if_some None P Q on was = was
+
+pub on_ok : {A E : Type 0} (outcome : Result A E) (P Q : Type 0) → (P → Q) → OnOk outcome P → OnOk outcome Q
+on_ok (Ok a) P Q on was = on was
+on_ok (Err e) P Q on was = was
+
+pub on_err : {A E : Type 0} (outcome : Result A E) (P Q : E → Type 0) → ((e : E) → P e → Q e) → IfErr outcome P → IfErr outcome Q
+on_err (Ok a) P Q on was = was
+on_err (Err e) P Q on was = on e was
 
 -- where nothing is there, a session of the map is put back
 pub own_again : (owner : SessionOwner) (session : Session) → IsEmpty owner → IsSessionOf (in_map owner) session → IsOwnSession (record owner { free = Some session })
@@ -228,6 +273,11 @@ answered_through old mid new op given same knows ended =
 pub answers_through : (old mid new : SessionOwner) (op : Op) (given : RawAnswer) → SeesMore old mid → Answers op mid new given → Answers op old new given
 answers_through old mid new op given sees answers = record { was = sees.at_hand.was; ended = answered_through old mid new op given sees.same sees.knows answers.ended }
 
+-- after one that was tried in place, and isn't made
+pub answers_untouched : (old mid new : SessionOwner) (op : Op) (given : RawAnswer) → IsUntouched old mid → Answers op mid new given → Answers op old new given
+answers_untouched old mid new op given (inl sees) answers = answers_through old mid new op given sees answers
+answers_untouched old mid new op given (inr same) answers = subst (λ (owner : SessionOwner). Answers op owner new given) same answers
+
 -- ---- why a change isn't made
 
 -- a session that can't be held changes nothing
@@ -255,6 +305,11 @@ refused_through op old mid new refusal sees (inl (is, inl busy)) = inl (
 )
 refused_through op old mid new refusal sees (inl (is, inr under_way)) = absurd (cc (sees.at_hand.is, under_way.0))
 refused_through op old mid new refusal sees (inr why) = inr (shortage_through old mid refusal sees.same why.0, sees_through old mid new sees why.1)
+
+pub not_made_untouched : (op : Op) (old mid new : SessionOwner) (why : NotMade) → IsUntouched old mid → IsNotMade op mid new why → IsNotMade op old new why
+not_made_untouched op old mid new (Refused refusal) (inl sees) not_made = refused_through op old mid new refusal sees not_made
+not_made_untouched op old mid new (Full number) (inl sees) not_made = sees_through old mid new sees not_made
+not_made_untouched op old mid new why (inr same) not_made = subst (λ (owner : SessionOwner). IsNotMade op owner new why) same not_made
 
 -- the map couldn't be renewed
 pub not_renewed : (op : Op) (old new : SessionOwner) (refusal : GrowError) → IsRefusalOf (in_map new) refusal → SeesMore old new → IsChangeRefusal op old new (refusal_of refusal)

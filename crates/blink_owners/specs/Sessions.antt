@@ -211,6 +211,10 @@ pub record Answers (op : Op) (old new : SessionOwner) (given : RawAnswer) : Type
   pub was : IsAtHand old
   pub ended : HasAnswered op (place_in old) (known_in old) old new given
 
+-- an operation that was tried isn't made: the session may have seen more; or nothing was done
+abbrev pub IsUntouched : SessionOwner → SessionOwner → Type 0
+IsUntouched old new = SeesMore old new ⊎ (new ≡ old)
+
 -- the operation of a session that was at hand has begun, and goes on at the next call
 pub record IsBusyWith (op : Op) (old new : SessionOwner) : Type 0 where
   pub was : IsAtHand old

@@ -1,14 +1,15 @@
 //! What the box of a session's handle holds: an owner of the map, and the session or its operation.
-ghost use Rattle.std.specs.Prelude.{◌≡◌, IfErr, IfOk, IsSome, None, OnErr, OnOk, Some};
+ghost use Rattle.std.specs.Prelude.{◌≡◌, IfErr, IfOk, IfSome, IsNone, IsSome, None, OnErr, OnOk, Some};
 ghost use mathlib.Core.List.{IsPrefix};
 ghost use Rattle.blink_batch.specs.{FitsWords};
 ghost use Rattle.blink_grow.specs.{IsHeldOf, IsPendingOf, IsRefusalOf, IsUpdate};
-ghost use Rattle.blink_owners.specs.Sessions.{Answers, EndsFrom, Finds, HasAnswered, HasPut, HasStepped, IsAdvanceRefusal, IsAtHand, IsAway, IsChangeRefusal, IsEmpty, IsGripped, IsNotMade, IsNotPut, IsOfPut, IsOwnSession, IsPutRefusal, IsRested, IsStepRefusal, IsTakeRefusal, IsTakenOut, IsTellRefusal, KnowsSame, Puts, SeesMore, Scans, ScansBack, Takes, TellsOn, TellsStock, in_map, is_putting, known_in, place_in, put_in, tells_put};
+ghost use Rattle.blink_owners.specs.Raw.{raw_answer};
+ghost use Rattle.blink_owners.specs.Sessions.{Answers, EndsFrom, Finds, HasAnswered, HasPut, HasStepped, IsAdvanceRefusal, IsAtHand, IsAway, IsChangeRefusal, IsEmpty, IsGripped, IsNotMade, IsNotPut, IsOfPut, IsOwnSession, IsPutRefusal, IsRested, IsStepRefusal, IsTakeRefusal, IsTakenOut, IsTellRefusal, IsUntouched, KnowsSame, Puts, SeesMore, Scans, ScansBack, Takes, TellsOn, TellsStock, in_map, is_putting, known_in, place_in, put_in, tells_put};
 
 use crate::map_refusal::MapRefusal;
 use crate::raw::{ABSENT, INSERTED, REMOVED, REPLACED, RawAnswer, RawScanned, RawStock, RawTaken};
 use crate::shared_map::SharedMap;
-use blink_batch::{Entry, Op};
+use blink_batch::{Answer, Entry, Op};
 use blink_grow::{GrowError, Held, PendingHeld, RENEWALS, Session, StoppedHeld};
 use std::alloc::Global;
 use std::sync::Arc;
@@ -175,9 +176,9 @@ impl SessionOwner {
         }
     }
 
-    /// Begins an operation that changes the map, and takes its steps (`GrowingMap::start` of `blink_grow`). Where the map is full, the
-    /// call renews it, and begins again, unless its room is fixed. Where a removal has left many empty leaves, it renews the map too, unless
-    /// it can't for now.
+    /// Begins an operation that changes the map, and takes its steps (`GrowingMap::start` of `blink_grow`). Where it meets nobody, it is
+    /// made at once, and the session stays where it is (`GrowingMap::try_change`). Where the map is full, the call renews it, and begins
+    /// again, unless its room is fixed. Where a removal has left many empty leaves, it renews the map too, unless it can't for now.
     pub fn change(
         &mut self,
         alloc: Global,
@@ -257,8 +258,49 @@ impl SessionOwner {
         }
     }
 
-    // Begins an operation in the current map, and takes its steps. Where the session lacks room for it there, it is free then.
+    // Makes an operation in the current map where the session is, if it can be made at once. Otherwise it begins the operation, and takes its
+    // steps.
     fn try_change(&mut self, op: Op, tries: u32, answer: &mut RawAnswer) -> Result<(), NotMade>
+        requires its_own { IsOwnSession self.old }
+        requires updates { IsUpdate op }
+        requires fits { FitsWords op }
+        ensures its_own { IsOwnSession self.new }
+        ensures answered { OnOk result (Answers op self.old self.new answer.new) }
+        ensures refused { IfErr result (IsNotMade op self.old self.new) }
+        ensures unchanged { OnErr result (answer.new ≡ answer.old) }
+    {
+        if let Some(given) = self.change_in_place(op, tries) {
+            *answer = RawAnswer::of(given);
+            return Ok(());
+        }
+        self.start_change(op, tries, answer)
+    }
+
+    // Makes an operation where the session is, if it can be made at once. One that is to stay held, but is free, isn't tried: it is held
+    // again when the operation is begun.
+    fn change_in_place(&mut self, op: Op, tries: u32) -> Option<Answer>
+        requires its_own { IsOwnSession self.old }
+        requires updates { IsUpdate op }
+        requires fits { FitsWords op }
+        ensures its_own { IsOwnSession self.new }
+        ensures answered { IfSome result (λ given. Answers op self.old self.new (raw_answer given)) }
+        ensures unchanged { IsNone result → IsUntouched self.old self.new }
+    {
+        let map = &self.shared.map;
+        match (&mut self.free, &mut self.held) {
+            (Some(session), _) => {
+                if self.keeps {
+                    return None;
+                }
+                map.try_change(session, op, tries)
+            }
+            (None, Some(held)) => map.try_change_held(held, op, tries),
+            (None, None) => None,
+        }
+    }
+
+    // Begins an operation in the current map, and takes its steps. Where the session lacks room for it there, it is free then.
+    fn start_change(&mut self, op: Op, tries: u32, answer: &mut RawAnswer) -> Result<(), NotMade>
         requires its_own { IsOwnSession self.old }
         requires updates { IsUpdate op }
         requires fits { FitsWords op }

@@ -103,6 +103,8 @@ module _ (live : Live) (op : Op) (descent : Descent) (first seat loaded next : S
             in_range = subst (λ (k : ℕ). IsRowNumber live.counts (row_in k)) (sym here) row_there;
             readable = loads.readable;
             only = λ other its. loads.only other its ∙ (is_machine after sees ∙ makes.1);
+            splits = refl;
+            leaf_in_range = (on.page_in_range is descent.leaf refl).1;
             under_way = same_machine (now after sees) then makes.1;
           }
       by_edit (Write its r) makes = subst (λ (s : Spot). IsToChange live op descent first next room s r) (sym makes.0) (to_change r makes.1 makes.2)

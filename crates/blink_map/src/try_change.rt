@@ -1,0 +1,102 @@
+//! An operation that changes a map, by a session that stays where it is: it is made at once, or given up.
+ghost use Rattle.std.specs.Prelude.{IfOk, IfSome, IsNone, OnErr};
+ghost use Rattle.blink_batch.specs.{FitsWords};
+ghost use Rattle.blink_machine.specs.{IsUpdate};
+ghost use Rattle.blink_map.specs.Changing.{HasTurnedOut};
+ghost use Rattle.blink_map.specs.Places.{IsMemberOf};
+ghost use Rattle.blink_map.specs.Putting.{HasTried, IsUnchangedBy, LacksKeyOf};
+ghost use Rattle.blink_map.specs.Sessions.{HasRoom, IsAnswered, IsSameBesideRoom, IsSessionOf, LacksRoom};
+
+use crate::change::{come_back, room_of};
+use crate::error::Full;
+use crate::map::{Map, Session};
+use crate::member::{Member, next_mark};
+use crate::steps::mark_place;
+use crate::waiting::BATCH_ROWS;
+use blink_batch::{Answer, Op};
+use blink_live::Live;
+
+impl Map {
+    /// Runs an operation that changes the map as `change` does, but waits for nobody: where it would have to wait, it is given up, and so
+    /// is an insertion into a leaf that is full. Then there is no answer, and the operation has changed nothing, though the session may
+    /// have seen more; `start` begins it anew. The session stays where it is, so the call costs less than `start`. It takes `tries` steps
+    /// in vain before it gives up, at least one, takes no memory, and returns.
+    ///
+    /// The call is refused where `start` gives the session back for lack of room, and leaves what a refused `change` leaves.
+    pub fn try_change(
+        &self,
+        session: &mut Session,
+        op: Op,
+        tries: u32,
+    ) -> Result<Option<Answer>, Full>
+        requires its_own { IsSessionOf self.now session.old }
+        requires updates { IsUpdate op }
+        requires fits { FitsWords op }
+        ensures answered { IfOk result (λ given. IfSome given
+            (IsAnswered self.now op session.old session.new)) }
+        ensures given_up { IfOk result (λ given. IsNone given → HasTried session.old session.new) }
+        ensures full { OnErr result (LacksRoom op session.old session.new) }
+        ensures absent { OnErr result (LacksKeyOf self.now op session.old session.new) }
+        ensures unchanged { OnErr result (IsUnchangedBy op session.old session.new) }
+    {
+        match self.try_run(session, op, tries) {
+            Ok(given) => Ok(given),
+            Err(full) => match self.answer_with_no_room(session, op) {
+                Some(answer) => Ok(Some(answer)),
+                None => Err(full),
+            },
+        }
+    }
+
+    // The same of an operation that its session has room for.
+    fn try_run(&self, session: &mut Session, op: Op, tries: u32) -> Result<Option<Answer>, Full>
+        requires its_own { IsSessionOf self.now session.old }
+        requires updates { IsUpdate op }
+        requires fits { FitsWords op }
+        ensures answered { IfOk result (λ given. IfSome given
+            (IsAnswered self.now op session.old session.new)) }
+        ensures given_up { IfOk result (λ given. IsNone given → HasTried session.old session.new) }
+        ensures full { OnErr result (LacksRoom op session.old session.new) }
+        ensures unchanged { OnErr result (IsSameBesideRoom session.old session.new) }
+    {
+        let Session { member } = session;
+        if !member.draw(&self.live, op) {
+            return Err(Full);
+        }
+        match member.try_change(&self.live, op, tries) {
+            Some(answer) => {
+                member.recycle(&self.live, BATCH_ROWS);
+                Ok(Some(answer))
+            }
+            None => Ok(None),
+        }
+    }
+}
+
+impl Member {
+    // Runs an operation that changes the tree, or gives it up. While it does, the member's place is marked.
+    fn try_change(&mut self, live: &Live, op: Op, tries: u32) -> Option<Answer>
+        requires its_own { IsMemberOf live.now self.old }
+        requires updates { IsUpdate op }
+        requires fits { FitsWords op }
+        requires room { HasRoom op self.old }
+        ensures { HasTurnedOut live.now op self.old self.new result }
+    {
+        let Member {
+            seat,
+            rows,
+            pages,
+            place,
+            shelf,
+            mark,
+        } = self;
+        mark_place(live, seat, *place, next_mark(mark));
+        let mut room = room_of(op, rows, pages, shelf.take());
+        let given = live.try_change_by(seat, &mut room, op, tries);
+        come_back(live, seat, *place);
+        rows.next = room.rows.next;
+        pages.next = room.pages.next;
+        *shelf = room.shelf;
+        given
+    }
+}
