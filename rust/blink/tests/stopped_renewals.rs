@@ -50,32 +50,32 @@ fn renews_after<T: PartialEq + Debug>(
     Some(renewed.is_ok())
 }
 
-// The map can be renewed until the call takes its session, and again once it has given it back.
-fn is_held_up_once(renewals: &[bool]) {
+// The map can be renewed until the call takes its session, and again once it has given it back; and it takes it so many times.
+fn is_held_up(times: usize, renewals: &[bool]) {
     let turns = renewals.windows(2).filter(|pair| pair[0] != pair[1]).count();
-    assert_eq!((renewals.first(), renewals.last(), turns), (Some(&true), Some(&true), 2));
+    assert_eq!((renewals.first(), renewals.last(), turns), (Some(&true), Some(&true), 2 * times));
     assert!(renewals.iter().filter(|renewed| !**renewed).count() > 5);
 }
 
 #[test]
 fn a_map_is_renewed_beside_a_find_that_is_stopped_anywhere() {
     let after = |instructions| renews_after(instructions, |session| session.get(1), &Some(10), &ENTRIES);
-    is_held_up_once(&(0..100_000).step_by(5).map_while(after).collect::<Vec<_>>());
+    is_held_up(1, &(0..100_000).step_by(5).map_while(after).collect::<Vec<_>>());
 }
 
 #[test]
 fn a_map_is_renewed_beside_a_change_that_is_stopped_anywhere() {
     let changed = [(1, 10), (2, 21), (3, 30), (4, 40)];
     let after = |instructions| renews_after(instructions, |session| session.replace(2, 21), &Ok(Answer::Replaced(20)), &changed);
-    is_held_up_once(&(0..100_000).step_by(23).map_while(after).collect::<Vec<_>>());
+    is_held_up(1, &(0..100_000).step_by(23).map_while(after).collect::<Vec<_>>());
 }
 
 #[test]
 fn a_map_is_renewed_beside_an_insertion_that_is_stopped_anywhere() {
-    // The leaf is full, so the insertion splits it.
+    // The leaf is full. So the insertion is given up where its session lies, takes the session out, and splits the leaf.
     let inserted = [(1, 10), (2, 20), (3, 30), (4, 40), (5, 50)];
     let after = |instructions| renews_after(instructions, |session| session.insert(5, 50), &Ok(Answer::Inserted), &inserted);
-    is_held_up_once(&(0..100_000).step_by(23).map_while(after).collect::<Vec<_>>());
+    is_held_up(2, &(0..100_000).step_by(23).map_while(after).collect::<Vec<_>>());
 }
 
 // Begins a replacement after so many instructions of another one of the key. Returns whether it rests then; none, if the first has fewer. Both
@@ -305,11 +305,11 @@ struct Shared {
 unsafe impl Sync for Shared {}
 
 impl Shared {
-    // A map in which keys 1 to 4 have ten times as much for pointers.
-    fn open() -> Shared {
+    // A map of this fan in which keys 1 to 4 have ten times as much for pointers.
+    fn open(fan: u8) -> Shared {
         // SAFETY: handles are filled once.
         unsafe {
-            let mut index = filled(|out| blink_index_new(4, out));
+            let mut index = filled(|out| blink_index_new(fan, out));
             for (key, pointer) in ENTRIES {
                 let mut answer = RawAnswer::NONE;
                 assert_eq!(blink_index_insert(&mut index, key, pointer, &mut answer), DONE);
@@ -348,8 +348,8 @@ impl Shared {
 // Begins to insert key 5, and renews the map after so many instructions; and the insertion goes on after so many instructions of the renewal.
 // The key is there afterwards exactly if the insertion was made. Returns whether it was made while the entries were copied: then a search by
 // another session was answered just before, and a change would not have been.
-fn inserts_during_a_copy(instructions: u32, of_renewal: u32) -> bool {
-    let shared = Shared::open();
+fn inserts_during_a_copy(fan: u8, instructions: u32, of_renewal: u32) -> bool {
+    let shared = Shared::open(fan);
     let turn = AtomicU32::new(CHANGE);
     let (mut passed, mut copies) = (0, false);
     let code = thread::scope(|scope| {
@@ -412,8 +412,8 @@ unsafe fn is_copied(session: &mut Handle) -> bool {
 }
 
 // Whether an insertion has its session after so many instructions, so that the map can't be renewed.
-fn is_taken_after(instructions: u32) -> bool {
-    let mut shared = Shared::open();
+fn is_taken_after(fan: u8, instructions: u32) -> bool {
+    let mut shared = Shared::open(fan);
     let (mut passed, mut renewed) = (0, DONE);
     let mut answer = RawAnswer::NONE;
     let (changing, renewing) = (&mut shared.changing, &mut shared.renewing);
@@ -433,9 +433,21 @@ fn is_taken_after(instructions: u32) -> bool {
     renewed == RENEWING
 }
 
+// After how many instructions an insertion takes its session for so many times.
+fn takes_after(fan: u8, times: u32) -> u32 {
+    let (mut takes, mut was) = (0, false);
+    let is_it = |instructions: &u32| {
+        let is = is_taken_after(fan, *instructions);
+        takes += u32::from(is && !was);
+        was = is;
+        takes == times
+    };
+    (1..100_000).find(is_it).expect("a change takes its session")
+}
+
 // After how many instructions a renewal copies the entries: a session was gathered, and it answers a search again.
-fn copies_after() -> u32 {
-    let mut shared = Shared::open();
+fn copies_after(fan: u8) -> u32 {
+    let mut shared = Shared::open(fan);
     let (mut passed, mut gathered, mut copies) = (0, false, None);
     let (renewing, looking) = (&mut shared.renewing, &mut shared.looking);
     let mut answer = RawAnswer::NONE;
@@ -459,15 +471,24 @@ fn copies_after() -> u32 {
 
 // A change that has found no renewal under way takes its session only then, and a renewal may be copying the entries by that time. It copies
 // them again.
-#[test]
-fn a_change_that_ends_while_the_entries_are_copied_is_not_lost() {
-    let taken = (1..100_000).find(|&instructions| is_taken_after(instructions)).expect("a change takes its session");
-    let copies = copies_after();
+fn is_not_lost(fan: u8, times: u32) {
+    let (taken, copies) = (takes_after(fan, times), copies_after(fan));
     let mut made = 0;
     for instructions in taken - 8..=taken {
         for of_renewal in [3_000, copies / 2, copies + 1_000] {
-            made += u32::from(inserts_during_a_copy(instructions, of_renewal));
+            made += u32::from(inserts_during_a_copy(fan, instructions, of_renewal));
         }
     }
     assert!(made > 0, "with {copies} instructions before the copy");
+}
+
+#[test]
+fn a_change_that_ends_while_the_entries_are_copied_is_not_lost() {
+    is_not_lost(8, 1);
+}
+
+// The leaf is full, so the insertion takes its session a second time, to split the leaf.
+#[test]
+fn a_split_that_ends_while_the_entries_are_copied_is_not_lost() {
+    is_not_lost(4, 2);
 }
