@@ -82,8 +82,7 @@ pub mod Parcels
 pub mod Handing
 pub mod Finding
 pub mod Scanning
-pub mod Merging
-pub mod Replacing
+pub mod Editing
 pub mod ScanningBack
 pub mod Snapshots
 pub mod Along

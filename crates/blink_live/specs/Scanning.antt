@@ -68,6 +68,11 @@ pub record IsCopied (known : ℕ → Option ℕ) (from stop : ℕ) (entries : Li
   pub ascending : IsAscending entries
   pub between : AllByRecursion (IsBetween from stop) entries
 
+-- a copy of a leaf's keys up to `hi` came to the end of the range, or it goes on behind the leaf's high key
+abbrev pub IsLeafEnd : ℕ → ℕ → Option ℕ → Type 0
+IsLeafEnd hi high None = hi ≤ high
+IsLeafEnd hi high (Some next) = (next ≡ high + 1) × (high < hi)
+
 -- the seat has scanned from `lo` to before `stop`
 pub record HasScanned (lo stop : ℕ) (entries : List Entry) (first me : SeatState) : Type 0 where
   pub searched : HasSearched first me

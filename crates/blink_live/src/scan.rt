@@ -15,14 +15,13 @@ ghost use Rattle.blink_rows.specs.declared.limits.TheConstants.{ROW_WORDS};
 ghost use Rattle.blink_live.specs.Along.{GoesAlong, IsNotedLeaf};
 ghost use Rattle.blink_live.specs.Finding.{HasSearched, IsIdle};
 ghost use Rattle.blink_live.specs.Handles.{IsPassOf, IsSameBesideSeen, KnowsItsKeys, keys_of, opening_of, seen_of, share_of};
-ghost use Rattle.blink_live.specs.Merging.{AreNewest, HasMerged, IsKeyOfFirst};
-ghost use Rattle.blink_live.specs.Scanning.{HasScanned, IsCopied, IsFilled, IsReport, ReportLaw, SaysOfKeys, StoppedFull, stop_of};
+ghost use Rattle.blink_live.specs.Scanning.{HasScanned, IsCopied, IsFilled, IsLeafEnd, IsReport, ReportLaw, SaysOfKeys, StoppedFull, stop_of};
 ghost use Rattle.blink_live.specs.Seats.{HasSameNumber, HasStates, IsPassSeat, IsSameSeat, ReadsLeaf, ReadsPage};
 ghost use Rattle.blink_live.specs.Views.{known_of};
 ghost use Rattle.blink_live.specs.Words.{IsRowNumber, row_start, word_count};
 
+use crate::copy::{NO_ENTRY, ROW_ENTRIES, give};
 use crate::live::{Live, Pass};
-use crate::merge::{LeafParts, Walk};
 use crate::read::link_of;
 use crate::rule::GoAlong;
 use crate::view::View;
@@ -30,7 +29,7 @@ use atomic_table::Seat;
 use blink_batch::Entry;
 use blink_page::MAX_FAN;
 use blink_rows::layout::{COUNT, ENTRY_WORDS, HIGH_KEY, RIGHT_LINK};
-use blink_rows::{HEAD_WORDS, MAX_RECORDS, Record, records_in, row_in};
+use blink_rows::{HEAD_WORDS, records_in, row_in};
 
 /// How far a scan came.
 #[derive(Clone, Copy, Debug, PartialEq, Eq)]
@@ -46,14 +45,6 @@ pub struct Scanned {
 pub(crate) struct KeyRange {
     pub lo: u64,
     pub hi: u64,
-}
-
-/// How far the copy of a leaf that has records has come.
-#[derive(Clone, Copy)]
-pub(crate) struct Copied {
-    pub walk: Walk,
-    /// The number of places that are filled, from the first on.
-    pub filled: usize,
 }
 
 impl Live {
@@ -268,20 +259,20 @@ impl Live {
         if records.count == 0 {
             return self.copy_row(seat, row_in(word), from, hi, into);
         }
-        // No record adds or removes a key, so the base has the leaf's keys. To copy it and give it the records' pointers takes less
-        // time than to sort the records and merge them with it.
+        // No record adds or removes a key, so the base has the leaf's keys, and the caller's slice gets them at once.
         if records.kinds == 0 {
             let copied = self.copy_row(seat, row_in(word), from, hi, into);
             self.replace_in(seat, word, &mut into[..copied.filled]);
             return copied;
         }
-        let newest = self.newest_records(seat, word);
+        let mut leaf = [NO_ENTRY; ROW_ENTRIES];
         let range = KeyRange { lo: from, hi };
-        self.copy_merged(seat, row_in(word), &newest, range, into)
+        let copied = self.copy_edited(seat, word, range, &mut leaf);
+        give(&leaf[..copied.filled], copied.next, into)
     }
 
     // The same of the page whose row the seat reads, without the records behind it.
-    fn copy_row(
+    pub(crate) fn copy_row(
         &self,
         seat: &mut Seat<u8, View>,
         row: u64,
@@ -302,6 +293,10 @@ impl Live {
             × (result.filled ≡ length entries) × IsCopied known from (stop_of hi result.next) entries }
         ensures within { (leaf : PlainPage) → ReadsPage seat.old.me row leaf
             → stop_of hi result.next ≤ leaf.high + 1 }
+        ensures few { (leaf : PlainPage) → ReadsPage seat.old.me row leaf
+            → result.filled ≤ length leaf.entries }
+        ensures ends { (leaf : PlainPage) → ReadsPage seat.old.me row leaf
+            → result.filled < length into.old → IsLeafEnd hi leaf.high result.next }
         ensures further { IfSome result.next (λ next. (from < next) × (next ≤ hi)) }
     {
         let start = self.row_place(row);
@@ -329,135 +324,6 @@ impl Live {
         let next = if high < hi { Some(high + 1) } else { None };
         Scanned { filled, next }
     }
-
-    // The same of a leaf that has records: these are the newest of their keys.
-    fn copy_merged(
-        &self,
-        seat: &mut Seat<u8, View>,
-        row: u64,
-        newest: &[Record],
-        range: KeyRange,
-        into: &mut [Entry],
-    ) -> Scanned
-        requires seat { IsPassSeat self.now seat.old.table_id seat.old.me }
-        requires row { IsRowNumber self.now.counts row }
-        requires few { length newest.now ≤ MAX_RECORDS }
-        requires leaf { (base : PlainPage) × (leaf : PlainPage) × ReadsPage seat.old.me row base
-            × AreNewest base leaf newest.now × HasStates (known_of seat.old.me.0) range.lo leaf }
-        requires range { range.lo ≤ range.hi }
-        requires some_place { 1 ≤ length into.old }
-        ensures same { IsSameSeat seat.old seat.new }
-        ensures copied { (entries : List Entry) × IsFilled entries into.old into.new
-            × (result.filled ≡ length entries)
-            × IsCopied (known_of seat.old.me.0) range.lo (stop_of range.hi result.next) entries }
-        ensures further { IfSome result.next (λ next. (range.lo < next) × (next ≤ range.hi)) }
-    {
-        let KeyRange { lo, hi } = range;
-        let start = self.row_place(row);
-        let parts = LeafParts {
-            start,
-            count: self.load_word(seat, start, COUNT) as usize,
-            newest,
-        };
-        let walk = Walk {
-            entries: 0,
-            records: 0,
-        };
-        let mut copied = self.copy_run(seat, &parts, range, into, Copied { walk, filled: 0 });
-        while let Some(met) = self.next_key(seat, &parts, copied.walk) {
-            let filled = copied.filled;
-            if met.key > hi {
-                return Scanned { filled, next: None };
-            }
-            copied.walk = met.walk;
-            if met.key < lo {
-                continue;
-            }
-            let Some(pointer) = met.pointer else {
-                continue;
-            };
-            if filled == into.len() {
-                let next = Some(met.key);
-                return Scanned { filled, next };
-            }
-            into[filled] = Entry {
-                key: met.key,
-                pointer,
-            };
-            copied.filled = filled + 1;
-            copied = self.copy_run(seat, &parts, range, into, copied);
-        }
-        let filled = copied.filled;
-        let last = self.load_word(seat, start, HIGH_KEY);
-        let next = if last < hi { Some(last + 1) } else { None };
-        Scanned { filled, next }
-    }
-
-    // Copies a run of the base's entries, from the walk's place on up to the next record's key: as long as the keys are in the range, and
-    // there are places. A run takes no look at records.
-    fn copy_run(
-        &self,
-        seat: &mut Seat<u8, View>,
-        parts: &LeafParts<'_>,
-        range: KeyRange,
-        into: &mut [Entry],
-        copied: Copied,
-    ) -> Copied
-        requires seat { IsPassSeat self.now seat.old.table_id seat.old.me }
-        requires inside { parts.now.start + ROW_WORDS ≤ word_count self.now.counts }
-        requires few { (parts.now.count ≤ MAX_FAN) × (copied.walk.entries ≤ parts.now.count) }
-        ensures same { IsSameSeat seat.old seat.new }
-        ensures records { result.walk.records ≡ copied.walk.records }
-        ensures passed { (copied.walk.entries ≤ result.walk.entries)
-            × (result.walk.entries ≤ parts.now.count) }
-        ensures merged { (row : ℕ) (base : PlainPage) (known : ℕ → Option ℕ) (stop : ℕ)
-            (old : List Entry)
-            → parts.now.start ≡ row_start self.now.counts row
-            → ReadsPage seat.old.me row base
-            → parts.now.count ≡ length base.entries
-            → length old ≡ length into.old
-            → HasMerged known range.lo range.hi stop (drop copied.walk.entries base.entries)
-            (drop copied.walk.records parts.now.newest.now) old into.old copied.filled
-            → HasMerged known range.lo range.hi stop (drop result.walk.entries base.entries)
-            (drop result.walk.records parts.now.newest.now) old into.new result.filled }
-    {
-        let KeyRange { lo, hi } = range;
-        let Walk { entries, records } = copied.walk;
-        let mut filled = copied.filled;
-        let bound = bound_at(parts.newest, records);
-        for place in entries..parts.count {
-            let at = HEAD_WORDS + ENTRY_WORDS * place;
-            let key = self.load_word(seat, parts.start, at);
-            if key >= bound || key > hi || filled >= into.len() {
-                let walk = Walk {
-                    entries: place,
-                    records,
-                };
-                return Copied { walk, filled };
-            }
-            if key < lo {
-                continue;
-            }
-            let pointer = self.load_word(seat, parts.start, at + 1);
-            into[filled] = Entry { key, pointer };
-            filled += 1;
-        }
-        let walk = Walk {
-            entries: parts.count,
-            records,
-        };
-        Copied { walk, filled }
-    }
-}
-
-// The key of the record at this place, or the greatest key behind the last record.
-fn bound_at(records: &[Record], place: usize) -> u64
-    ensures { IsKeyOfFirst (drop place records.now) result }
-{
-    if place < records.len() {
-        return records[place].key;
-    }
-    u64::MAX
 }
 
 /// States what a report tells of each key, whatever the fronts are.

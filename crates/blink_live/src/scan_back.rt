@@ -13,21 +13,20 @@ ghost use Rattle.blink_rows.specs.{row_in};
 ghost use Rattle.blink_rows.specs.declared.limits.TheConstants.{MAX_RECORDS, ROW_WORDS};
 ghost use Rattle.blink_live.specs.Finding.{IsIdle};
 ghost use Rattle.blink_live.specs.Handles.{IsPassOf, IsSameBesideSeen, KnowsItsKeys, keys_of, opening_of, seen_of, share_of};
-ghost use Rattle.blink_live.specs.Merging.{AreNewest, HasMergedBack, IsAboveRecords};
 ghost use Rattle.blink_live.specs.Scanning.{IsCopied, IsFilled, SaysOfKeys, StoppedFull};
 ghost use Rattle.blink_live.specs.ScanningBack.{HasScannedBack, IsReportBack, ReportBackLaw, start_of};
 ghost use Rattle.blink_live.specs.Seats.{HasLesser, HasSameNumber, IsPassSeat, IsSameSeat, ReadsLeaf, ReadsPage};
 ghost use Rattle.blink_live.specs.Views.{known_of};
 ghost use Rattle.blink_live.specs.Words.{IsRowNumber, row_start, word_count};
 
+use crate::copy::{NO_ENTRY, ROW_ENTRIES, give};
 use crate::live::{Live, Pass};
-use crate::merge::{LeafParts, Walk};
-use crate::scan::{Copied, KeyRange, Scanned};
+use crate::scan::{KeyRange, Scanned};
 use crate::view::View;
 use atomic_table::Seat;
 use blink_batch::Entry;
 use blink_rows::layout::{COUNT, ENTRY_WORDS, FLOOR, HAS_FLOOR};
-use blink_rows::{HEAD_WORDS, Record, records_in, row_in};
+use blink_rows::{HEAD_WORDS, records_in, row_in};
 
 impl Live {
     /// Reports the entries whose keys are from `lo` to `hi`, both included, in descending order, whatever other passes do at the
@@ -124,9 +123,15 @@ impl Live {
         if records_in(word).count == 0 {
             return self.copy_row_back(seat, row_in(word), lo, from, into);
         }
-        let newest = self.newest_records(seat, word);
+        let mut leaf = [NO_ENTRY; ROW_ENTRIES];
         let range = KeyRange { lo, hi: from };
-        self.copy_merged_back(seat, row_in(word), &newest, range, into)
+        let copied = self.copy_edited(seat, word, range, &mut leaf);
+        let entries = &mut leaf[..copied.filled];
+        entries.reverse();
+        let start = self.row_place(row_in(word));
+        let floor = self.load_floor(seat, start);
+        let next = not_below(lo, floor);
+        give(entries, next, into)
     }
 
     // The same of a leaf that has no records.
@@ -173,126 +178,6 @@ impl Live {
         Scanned { filled, next }
     }
 
-    // The same of a leaf that has records: these are the newest of their keys.
-    fn copy_merged_back(
-        &self,
-        seat: &mut Seat<u8, View>,
-        row: u64,
-        newest: &[Record],
-        range: KeyRange,
-        into: &mut [Entry],
-    ) -> Scanned
-        requires seat { IsPassSeat self.now seat.old.table_id seat.old.me }
-        requires row { IsRowNumber self.now.counts row }
-        requires few { length newest.now ≤ MAX_RECORDS }
-        requires leaf { (base : PlainPage) × (leaf : PlainPage) × ReadsPage seat.old.me row base
-            × AreNewest base leaf newest.now × HasLesser (known_of seat.old.me.0) range.hi leaf
-            × (range.hi ≤ leaf.high) }
-        requires range { range.lo ≤ range.hi }
-        requires some_place { 1 ≤ length into.old }
-        ensures same { IsSameSeat seat.old seat.new }
-        ensures copied { (entries : List Entry) × IsFilled (reverse entries) into.old into.new
-            × (result.filled ≡ length entries)
-            × IsCopied (known_of seat.old.me.0) (start_of range.lo result.next) (range.hi + 1) entries }
-        ensures further { IfSome result.next (λ next. (range.lo ≤ next) × (next < range.hi)) }
-    {
-        let KeyRange { lo, hi } = range;
-        let start = self.row_place(row);
-        let parts = LeafParts {
-            start,
-            count: self.load_word(seat, start, COUNT) as usize,
-            newest,
-        };
-        let walk = Walk {
-            entries: parts.count,
-            records: newest.len(),
-        };
-        let mut copied = self.copy_run_back(seat, &parts, range, into, Copied { walk, filled: 0 });
-        while let Some(met) = self.key_before(seat, &parts, copied.walk) {
-            let filled = copied.filled;
-            if met.key < lo {
-                return Scanned { filled, next: None };
-            }
-            copied.walk = met.walk;
-            if met.key > hi {
-                continue;
-            }
-            let Some(pointer) = met.pointer else {
-                continue;
-            };
-            if filled == into.len() {
-                let next = Some(met.key);
-                return Scanned { filled, next };
-            }
-            into[filled] = Entry {
-                key: met.key,
-                pointer,
-            };
-            copied.filled = filled + 1;
-            copied = self.copy_run_back(seat, &parts, range, into, copied);
-        }
-        let filled = copied.filled;
-        let floor = self.load_floor(seat, start);
-        let next = not_below(lo, floor);
-        Scanned { filled, next }
-    }
-
-    // Copies a run of the base's entries, from the walk's place down to the record before: as long as the keys are in the range, and there
-    // are places. A run takes no look at records.
-    fn copy_run_back(
-        &self,
-        seat: &mut Seat<u8, View>,
-        parts: &LeafParts<'_>,
-        range: KeyRange,
-        into: &mut [Entry],
-        copied: Copied,
-    ) -> Copied
-        requires seat { IsPassSeat self.now seat.old.table_id seat.old.me }
-        requires inside { parts.now.start + ROW_WORDS ≤ word_count self.now.counts }
-        requires few { copied.walk.entries ≤ MAX_FAN }
-        requires few_newer { copied.walk.records ≤ length parts.now.newest.now }
-        ensures same { IsSameSeat seat.old seat.new }
-        ensures records { result.walk.records ≡ copied.walk.records }
-        ensures passed { result.walk.entries ≤ copied.walk.entries }
-        ensures merged { (row : ℕ) (base : PlainPage) (known : ℕ → Option ℕ) (low : ℕ)
-            (old : List Entry)
-            → parts.now.start ≡ row_start self.now.counts row
-            → ReadsPage seat.old.me row base
-            → copied.walk.entries ≤ length base.entries
-            → length old ≡ length into.old
-            → HasMergedBack known range.lo range.hi low (take copied.walk.entries base.entries)
-            (take copied.walk.records parts.now.newest.now) old into.old copied.filled
-            → HasMergedBack known range.lo range.hi low (take result.walk.entries base.entries)
-            (take result.walk.records parts.now.newest.now) old into.new result.filled }
-    {
-        let KeyRange { lo, hi } = range;
-        let Walk { entries, records } = copied.walk;
-        let mut filled = copied.filled;
-        let bound = bound_before(parts.newest, records);
-        for place in (0..entries).rev() {
-            let at = HEAD_WORDS + ENTRY_WORDS * place;
-            let key = self.load_word(seat, parts.start, at);
-            if key <= bound || key < lo || filled >= into.len() {
-                let walk = Walk {
-                    entries: place + 1,
-                    records,
-                };
-                return Copied { walk, filled };
-            }
-            if key > hi {
-                continue;
-            }
-            let pointer = self.load_word(seat, parts.start, at + 1);
-            into[filled] = Entry { key, pointer };
-            filled += 1;
-        }
-        let walk = Walk {
-            entries: 0,
-            records,
-        };
-        Copied { walk, filled }
-    }
-
     // Loads the floor of the page whose row begins at `start`.
     fn load_floor(&self, seat: &mut Seat<u8, View>, start: usize) -> Option<u64>
         requires seat { IsPassSeat self.now seat.old.table_id seat.old.me }
@@ -307,17 +192,6 @@ impl Live {
         }
         Some(self.load_word(seat, start, FLOOR))
     }
-}
-
-// The key of the record before this place, or the least key before the first record.
-fn bound_before(records: &[Record], place: usize) -> u64
-    requires { place ≤ length records.now }
-    ensures { (key : ℕ) → result < key → IsAboveRecords key (take place records.now) }
-{
-    if place == 0 {
-        return 0;
-    }
-    records[place - 1].key
 }
 
 // The leaf's floor, unless that is below `lo`.

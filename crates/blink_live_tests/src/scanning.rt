@@ -188,6 +188,57 @@ fn a_scan_passes_empty_leaves(rt: HostRuntime) {
     }
 }
 
+// In one leaf a key gets another pointer, one is removed and one is added.
+pub(crate) const EDITS: [Step; 3] = [
+    Call(Op::Replace(2, 22), Ok(Answer::Replaced(20))),
+    Call(Op::Delete(3), Ok(Answer::Removed(30))),
+    Call(Op::Insert(0, 5), Ok(Answer::Inserted)),
+];
+
+// Of the keys 0 to 2 and 4 to 14. A slice may be shorter than the leaf, and a range may begin or end within it.
+const OF_EDITED: [Scan; 5] = [
+    Scan {
+        range: (0, 5),
+        places: 20,
+        entries: &[(0, 5), (1, 10), (2, 22), (4, 40), (5, 50)],
+        next: None,
+    },
+    Scan {
+        range: (0, 5),
+        places: 3,
+        entries: &[(0, 5), (1, 10), (2, 22)],
+        next: Some(4),
+    },
+    Scan {
+        range: (0, 2),
+        places: 3,
+        entries: &[(0, 5), (1, 10), (2, 22)],
+        next: None,
+    },
+    Scan {
+        range: (1, 3),
+        places: 20,
+        entries: &[(1, 10), (2, 22)],
+        next: None,
+    },
+    Scan {
+        range: (3, 3),
+        places: 20,
+        entries: &[],
+        next: None,
+    },
+];
+
+#[test]
+fn a_scan_reports_what_records_say(rt: HostRuntime) {
+    let mut table = Shared::open(&rt, rt.alloc(), (0, 14), (1, 2));
+    table.deal(&rt, &[0, 2, 3], 1, 2, Ok(()));
+    table.take(&rt, 0, &EDITS);
+    for case in &OF_EDITED {
+        table.scan(&rt, case);
+    }
+}
+
 // ---- scans while others change the tree
 
 // Inserts the thread's keys, each with ten times the key. Then an odd thread deletes its keys, and an even one scans meanwhile.

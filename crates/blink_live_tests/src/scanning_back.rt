@@ -3,7 +3,7 @@ ghost use Rattle.blink_live.specs.{IsPassOf};
 
 use crate::indexes::Look::Every;
 use crate::same::same;
-use crate::scanning::{BEFORE, CHANGES, Scan, are_as_expected};
+use crate::scanning::{BEFORE, CHANGES, EDITS, Scan, are_as_expected};
 use crate::shared::Shared;
 use crate::story::End;
 use crate::walks::every;
@@ -165,6 +165,50 @@ fn a_backward_scan_passes_empty_leaves(rt: HostRuntime) {
     table.deal(&rt, &[2, 4, 5, 6, 7, 8, 9, u64::MAX], 1, 7, Ok(()));
     table.take(&rt, 0, &CHANGES);
     for case in &OF_CHANGED {
+        table.scan_back(&rt, case);
+    }
+}
+
+// Of the keys 0 to 2 and 4 to 14. A slice may be shorter than the leaf, and a range may begin or end within it.
+const OF_EDITED: [Scan; 5] = [
+    Scan {
+        range: (0, 5),
+        places: 20,
+        entries: &[(5, 50), (4, 40), (2, 22), (1, 10), (0, 5)],
+        next: None,
+    },
+    Scan {
+        range: (0, 4),
+        places: 2,
+        entries: &[(4, 40), (2, 22)],
+        next: Some(1),
+    },
+    Scan {
+        range: (1, 4),
+        places: 3,
+        entries: &[(4, 40), (2, 22), (1, 10)],
+        next: None,
+    },
+    Scan {
+        range: (0, 1),
+        places: 20,
+        entries: &[(1, 10), (0, 5)],
+        next: None,
+    },
+    Scan {
+        range: (3, 3),
+        places: 20,
+        entries: &[],
+        next: None,
+    },
+];
+
+#[test]
+fn a_backward_scan_reports_what_records_say(rt: HostRuntime) {
+    let mut table = Shared::open(&rt, rt.alloc(), (0, 14), (1, 2));
+    table.deal(&rt, &[0, 2, 3], 1, 2, Ok(()));
+    table.take(&rt, 0, &EDITS);
+    for case in &OF_EDITED {
         table.scan_back(&rt, case);
     }
 }

@@ -11,7 +11,7 @@ use Rattle.atomic_table.specs.Table.{State, Act, Valid, stepped, carried_after, 
 use Rattle.atomic_table.proofs.Lists.{exchanged, set_again}
 use lib.Seq.{set-get_or}
 use Rattle.blink_batch.specs.{FitsWords}
-use Rattle.blink_rows.specs.{row_in}
+use Rattle.blink_rows.specs.{PlainCounts, row_in}
 use Rattle.blink_machine.specs.declared.machine.Need.TheVariants.{Latch, Unlatch}
 use Rattle.blink_machine.specs.declared.step.Step.TheVariants.{Moved}
 use Rattle.blink_machine.specs.declared.step.Kind.TheVariants as kind
@@ -38,6 +38,10 @@ use Rattle.blink_live.proofs.table.OthersKnowTheSame.{LeavesOthers, RowStays, pa
 use Rattle.blink_live.proofs.table.RowsAreNamed.{same_names}
 use Rattle.blink_live.proofs.table.StoresKeepTable.{row_stays, call_kept, IsStored, prime_still, store_keeps}
 use Rattle.blink_live.proofs.table.SparesOfSeats.{spare_still}
+
+-- where a page's latch word stands, by the same counts
+pub at_place : (number place : ℕ) (counts other : PlainCounts) → counts ≡ other → place ≡ counts.numbers + number → other.numbers + number ≡ place
+at_place number place counts other same is = ap (λ (k : PlainCounts). k.numbers + number) (sym same) ∙ sym is
 
 -- a latch word of 0 says that nobody has the latch
 pub nobody_has : (owners : Owners) (holder : Option ℕ) → ((seat : ℕ) → holder ≡ Some seat → 1 ≤ owners.latch_number seat) → latch_word owners holder ≡ 0 → holder ≡ None

@@ -3,7 +3,7 @@ use Rattle.std.proofs.Common.{◌≡◌, ℕ, ◌+◌, ◌≤◌, Option, List, 
 use Rattle.blink_batch.specs.declared.Entry.{Entry}
 use Rattle.blink_page.specs.{PlainPage}
 use Rattle.blink_rows.specs.{row_in}
-use Rattle.blink_live.specs.Replacing.{pointers_in}
+use Rattle.blink_live.specs.Editing.{pointers_in}
 use Rattle.blink_live.specs.Scanning.{IsCopied, IsFilled}
 use Rattle.blink_live.specs.Seats.{HasStates, ReadsLeaf, ReadsPage, ReadsVersion}
 use Rattle.blink_live.specs.Views.{SeatState, known_of}

@@ -1,11 +1,11 @@
-use Rattle.std.proofs.Common.{ℕ, sym, ap, ◌∙◌, subst, arith}
+use Rattle.std.proofs.Common.{ℕ, take, sym, ap, ◌∙◌, subst, arith}
 use Rattle.std.proofs.lemmas.List.{length-take-le}
 use Rattle.blink_rows.specs.declared.naming.Records.{Records}
-use Rattle.blink_live.specs.Merging.{AreNewest}
 use Rattle.blink_live.specs.Scanning.{stop_of}
-use Rattle.blink_live.specs.Seats.{HasStates, ReadsPage}
-use Rattle.blink_live.specs.Views.{SeatState, known_of}
+use Rattle.blink_live.specs.Seats.{ReadsPage}
+use Rattle.blink_live.specs.Views.{known_of}
 use Rattle.blink_live.proofs.found.VersionsAreRead.{base_in, page_alone}
+use Rattle.blink_live.proofs.scanned.LeavesAreGiven.{first_is_further, given_first}
 use Rattle.blink_live.proofs.scanned.LeavesOfReplacements.{first_copied, leaf_copied, no_more, version_still}
 use Rattle.blink_live.proofs.live.Live.copy_leaf.Goals as goal
 
@@ -47,14 +47,18 @@ returns-then-records-eq0-2-clause-copied c =
 
 -- ---- some record adds or removes a key
 
-pub copy_merged-requires-clause-leaf : goal.copy_merged-requires-clause-leaf
-copy_merged-requires-clause-leaf c =
+pub returns-clause-copied : goal.returns-clause-copied
+returns-clause-copied c =
     let leaf = c.requires.leaf in
-    let base = leaf.reads.base in
-    let same = c.newest_records-newest.ensures.same.2 in (
-      base,
-      leaf.leaf,
-      subst (λ (me : SeatState). ReadsPage me c.row_in-2.result base) (sym same) (base_in leaf.reads c.row_in-2.ensures.row),
-      subst (AreNewest base leaf.leaf) (sym c.deref.ensures.0) (c.newest_records-newest.ensures.newest leaf.leaf leaf.reads),
-      subst (λ (me : SeatState). HasStates (known_of me.0) c.args.from leaf.leaf) (sym same) (record { reaches = leaf.reaches; states = leaf.states }),
-    )
+    let edited = c.copy_edited-copied in
+    let given = c.give.ensures in
+    given_first leaf c.args.hi edited.result.next (take edited.result.filled edited.new.leaf) (edited.ensures.copied leaf.leaf leaf.reads) (edited.ensures.ends leaf.leaf leaf.reads)
+    c.args.into.now c.give.new.into c.give.result.filled c.give.result.next given.filled given.within given.all given.some
+
+pub returns-clause-further : goal.returns-clause-further
+returns-clause-further c =
+    let leaf = c.requires.leaf in
+    let edited = c.copy_edited-copied in
+    let given = c.give.ensures in
+    first_is_further leaf c.args.hi edited.result.next (take edited.result.filled edited.new.leaf) (edited.ensures.copied leaf.leaf leaf.reads) (edited.ensures.ends leaf.leaf leaf.reads)
+    c.args.into.now c.give.new.into c.give.result.filled c.give.result.next given.filled given.within given.all given.some c.requires.some_place

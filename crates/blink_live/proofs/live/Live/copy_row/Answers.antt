@@ -7,7 +7,7 @@ use Rattle.blink_rows.specs.{page_words}
 use Rattle.blink_live.specs.declared.view.View.{View}
 use Rattle.blink_live.specs.Seats.{ReadsPage}
 use Rattle.blink_live.specs.Views.{SeatState}
-use Rattle.blink_live.specs.Replacing.{pointers_in}
+use Rattle.blink_live.specs.Editing.{pointers_in}
 use Rattle.blink_live.proofs.found.FindsOfSeveral.{same_seat}
 use Rattle.blink_live.proofs.found.EntriesInRow.{key_inside, key_word, value_inside, value_word}
 use Rattle.blink_live.proofs.scanned.LeavesAreCopied.{HasCopied, copied_more, copied_none, copied_past, ends_at_hi, ends_at_high, ends_at_place, ends_with_leaf, place_is_behind, place_is_within}
@@ -30,6 +30,7 @@ pub loop-place-init : goal.loop-place-init
 loop-place-init c = record {
   same = c.load_word-count.ensures.same;
   count = λ leaf reads. c.load_word-count.ensures.word c.args.row (page_words leaf) c.row_place-start.ensures.start reads.reads (omega arith);
+  few = omega arith;
   copied = λ leaf reads. copied_none c.args.from c.args.hi leaf.entries c.args.into.now;
 }
 
@@ -55,6 +56,7 @@ loop-place-preserved c =
               ap (λ (s : Seat ℕ View). s.me) w.seat-is ∙ pointer.same.2 ∙ key.same.2 ∙ same.2,
             );
             count = c.loop-place.invariant.count;
+            few = (let few = c.loop-place.invariant.few in let one = w.filled-is in omega (arith, few, one));
             copied = λ leaf reads.
                 let was = c.loop-place.invariant.copied leaf reads in
                 let fits = was.0.fits in
@@ -72,6 +74,7 @@ loop-place-preserved c =
           ap (λ (s : Seat ℕ View). s.me) w.seat-is ∙ key.same.2 ∙ same.2,
         );
         count = c.loop-place.invariant.count;
+        few = (let few = c.loop-place.invariant.few in let same_count = w.filled-is in omega (arith, few, same_count));
         copied = λ leaf reads.
             subst (λ (x : List Entry × ℕ). HasCopied c.args.from c.args.hi leaf.entries c.args.into.now (c.loop-place.place + 1) x.0 x.1) (λ i. (sym w.into-is i, sym w.filled-is i))
             (copied_past c.args.from c.args.hi leaf.entries c.args.into.now c.loop-place.into c.loop-place.place c.loop-place.filled c.load_word-key.result 0 (c.loop-place.invariant.copied leaf reads) (inside leaf reads) (its_key leaf reads) w.if-key-from.false);
@@ -109,6 +112,12 @@ returns-then-key-hi-clause-within c leaf reads =
     (its_key leaf reads c.loop-place.invariant.same.2 _ _ c.load_word-key.result count test loads) in
     omega (arith, within, c.if-key-hi.true)
 
+pub returns-then-key-hi-clause-few : goal.returns-then-key-hi-clause-few
+returns-then-key-hi-clause-few c leaf reads = let few = c.loop-place.invariant.few in let count = c.loop-place.invariant.count leaf reads in omega (arith, few, count, c.loop-place-test.true)
+
+pub returns-then-key-hi-clause-ends : goal.returns-then-key-hi-clause-ends
+returns-then-key-hi-clause-ends c leaf reads room = let within = returns-then-key-hi-clause-within c leaf reads in omega (arith, within)
+
 pub returns-then-filled-into-clause-copied : goal.returns-then-filled-into-clause-copied
 returns-then-filled-into-clause-copied c leaf known reads has =
     let count = c.loop-place.invariant.count leaf reads in
@@ -128,6 +137,9 @@ returns-then-filled-into-clause-within c leaf reads =
     (there leaf reads c.loop-place.invariant.same.2 _ _ c.load_word-key.result count test loads)
     (its_key leaf reads c.loop-place.invariant.same.2 _ _ c.load_word-key.result count test loads) in
     omega (arith, within)
+
+pub returns-then-filled-into-clause-few : goal.returns-then-filled-into-clause-few
+returns-then-filled-into-clause-few c leaf reads = let few = c.loop-place.invariant.few in let count = c.loop-place.invariant.count leaf reads in omega (arith, few, count, c.loop-place-test.true)
 
 pub returns-then-filled-into-clause-further : goal.returns-then-filled-into-clause-further
 returns-then-filled-into-clause-further c =
@@ -163,6 +175,14 @@ returns-then-high-hi-clause-within c leaf reads =
     let high = its_high leaf reads c.loop-place.invariant.same.2 c.load_word-high.result (λ content. c.load_word-high.ensures.word c.args.row content c.row_place-start.ensures.start) in
     omega (arith, high)
 
+pub returns-then-high-hi-clause-few : goal.returns-then-high-hi-clause-few
+returns-then-high-hi-clause-few c leaf reads = let few = c.loop-place.invariant.few in let count = c.loop-place.invariant.count leaf reads in omega (arith, few, count, c.loop-place.auto.place-end)
+
+pub returns-then-high-hi-clause-ends : goal.returns-then-high-hi-clause-ends
+returns-then-high-hi-clause-ends c leaf reads room =
+    let high = its_high leaf reads c.loop-place.invariant.same.2 c.load_word-high.result (λ content. c.load_word-high.ensures.word c.args.row content c.row_place-start.ensures.start) in
+    (omega (arith, high), omega (arith, high, c.if-high-hi.true))
+
 pub returns-then-high-hi-clause-further : goal.returns-then-high-hi-clause-further
 returns-then-high-hi-clause-further c =
     let leaf = c.requires.leaf in
@@ -185,3 +205,11 @@ returns-else-high-hi-clause-within c leaf reads =
     let high = its_high leaf reads c.loop-place.invariant.same.2 c.load_word-high.result (λ content. c.load_word-high.ensures.word c.args.row content c.row_place-start.ensures.start) in
     let test = c.if-high-hi.false in
     omega (arith, high, test)
+
+pub returns-else-high-hi-clause-few : goal.returns-else-high-hi-clause-few
+returns-else-high-hi-clause-few c leaf reads = let few = c.loop-place.invariant.few in let count = c.loop-place.invariant.count leaf reads in omega (arith, few, count, c.loop-place.auto.place-end)
+
+pub returns-else-high-hi-clause-ends : goal.returns-else-high-hi-clause-ends
+returns-else-high-hi-clause-ends c leaf reads room =
+    let high = its_high leaf reads c.loop-place.invariant.same.2 c.load_word-high.result (λ content. c.load_word-high.ensures.word c.args.row content c.row_place-start.ensures.start) in
+    omega (arith, high, c.if-high-hi.false)

@@ -1,4 +1,4 @@
-use Rattle.std.proofs.Common.{◌≡◌, ℕ, ◌+◌, ◌<◌, sym, ap, ◌∙◌, subst, arith}
+use Rattle.std.proofs.Common.{ℕ, ◌<◌, subst, arith}
 use mathlib.Core.Option.{none}
 use Rattle.atomic_table.specs.Table.{step, Allows}
 use Rattle.blink_rows.specs.{PlainCounts}
@@ -6,11 +6,9 @@ use Rattle.blink_live.specs.declared.view.Plan.{Plan}
 use Rattle.blink_live.specs.GivingUp.{giving_up}
 use Rattle.blink_live.specs.Rule.{IsTable}
 use Rattle.blink_live.specs.Views.{SeatState, plan_of}
+use Rattle.blink_live.proofs.changed.LatchesKeepTable.{at_place}
 use Rattle.blink_live.proofs.changed.OperationsAreGivenUp.{latch_is_given_up}
 use Rattle.blink_live.proofs.live.Live.give_latch_up.Goals as goal
-
-at_place : (number place : ℕ) (counts other : PlainCounts) → counts ≡ other → place ≡ counts.numbers + number → other.numbers + number ≡ place
-at_place number place counts other same is = ap (λ (k : PlainCounts). k.numbers + number) (sym same) ∙ sym is
 
 pub store-requires : goal.store-requires
 store-requires c =

@@ -1,7 +1,7 @@
 use Rattle.std.proofs.Common.{ℕ, take}
 use Rattle.blink_page.specs.{PlainPage}
 use Rattle.blink_rows.specs.{page_with}
-use Rattle.blink_live.specs.Replacing.{pointers_in}
+use Rattle.blink_live.specs.Editing.{pointers_in}
 use Rattle.blink_live.specs.Scanning.{IsCopied}
 use Rattle.blink_live.specs.Seats.{IsSameSeat, ReadsVersion}
 use Rattle.blink_live.proofs.live.Live.replace_in.Given as goal

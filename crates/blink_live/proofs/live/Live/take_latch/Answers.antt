@@ -8,11 +8,8 @@ use Rattle.blink_live.specs.declared.view.Plan.{Plan}
 use Rattle.blink_live.specs.AtomicSteps.{tries_latch}
 use Rattle.blink_live.specs.Rule.{IsTable}
 use Rattle.blink_live.specs.Views.{SeatState, plan_of}
-use Rattle.blink_live.proofs.changed.LatchesKeepTable.{latch_is_tried}
+use Rattle.blink_live.proofs.changed.LatchesKeepTable.{at_place, latch_is_tried}
 use Rattle.blink_live.proofs.live.Live.take_latch.Goals as goal
-
-at_place : (number place : ℕ) (counts other : PlainCounts) → counts ≡ other → place ≡ counts.numbers + number → other.numbers + number ≡ place
-at_place number place counts other same is = ap (λ (k : PlainCounts). k.numbers + number) (sym same) ∙ sym is
 
 pub compare_exchange-requires : goal.compare_exchange-requires
 compare_exchange-requires c =
