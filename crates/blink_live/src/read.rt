@@ -28,6 +28,9 @@ use blink_rows::layout::{COUNT, ENTRY_WORDS, FLOOR, HAS_FLOOR, HIGH_KEY, LEVEL, 
 use blink_rows::{HEAD_WORDS, ROW_WORDS, Record, records_in, row_in, row_prime};
 use std::marker::Brand;
 
+// The number of entries in a line of the processor's cache.
+const LINE: usize = 4;
+
 impl Live {
     // Runs the descent of an operation that has not begun, to the leaf of its key. The operation stays where its caller made it,
     // since it is large.
@@ -207,15 +210,131 @@ impl Live {
             → result ≡ slice_get page.entries (place_of key page.entries) }
     {
         let count = self.load_word(seat, start, COUNT) as usize;
+        let place = self.place_in_row(seat, start, count, key, hint);
+        if place == count {
+            return None;
+        }
+        let at = HEAD_WORDS + ENTRY_WORDS * place;
+        let found = self.load_word(seat, start, at);
+        Some((found, self.load_word(seat, start, at + 1)))
+    }
+
+    // The place of the first entry whose key is at least `key`, in a page of so many entries.
+    fn place_in_row(
+        &self,
+        seat: &mut Seat<u8, View>,
+        start: usize,
+        count: usize,
+        key: u64,
+        hint: usize,
+    ) -> usize
+        requires seat { IsPassSeat self.now seat.old.table_id seat.old.me }
+        requires inside { start + ROW_WORDS ≤ word_count self.now.counts }
+        requires page { (row : ℕ) × (page : PlainPage) × (start ≡ row_start self.now.counts row)
+            × ReadsPage seat.old.me row page × (count ≡ length page.entries) }
+        ensures same { IsSameSeat seat.old seat.new }
+        ensures place { (row : ℕ) (page : PlainPage) → start ≡ row_start self.now.counts row
+            → ReadsPage seat.old.me row page
+            → count ≡ length page.entries
+            → result ≡ place_of key page.entries }
+    {
+        if hint == 0 && count >= LINE {
+            return self.place_by_lines(seat, start, count, key);
+        }
+        self.place_behind(seat, start, count, key, hint)
+    }
+
+    // The same of a page with a line of the cache or more. It compares the last key of each line, and then four keys, all without a branch on
+    // a key, since none could be foretold.
+    fn place_by_lines(
+        &self,
+        seat: &mut Seat<u8, View>,
+        start: usize,
+        count: usize,
+        key: u64,
+    ) -> usize
+        requires seat { IsPassSeat self.now seat.old.table_id seat.old.me }
+        requires inside { start + ROW_WORDS ≤ word_count self.now.counts }
+        requires page { (row : ℕ) × (page : PlainPage) × (start ≡ row_start self.now.counts row)
+            × ReadsPage seat.old.me row page × (count ≡ length page.entries) }
+        requires line { LINE ≤ count }
+        ensures same { IsSameSeat seat.old seat.new }
+        ensures place { (row : ℕ) (page : PlainPage) → start ≡ row_start self.now.counts row
+            → ReadsPage seat.old.me row page
+            → count ≡ length page.entries
+            → result ≡ place_of key page.entries }
+    {
+        let first = (LINE * self.lines_passed(seat, start, count, key)).min(count - LINE);
+        first
+            + self.one_if_below(seat, start, first, key)
+            + self.one_if_below(seat, start, first + 1, key)
+            + self.one_if_below(seat, start, first + 2, key)
+            + self.one_if_below(seat, start, first + 3, key)
+    }
+
+    // The number of whole lines before that place.
+    fn lines_passed(&self, seat: &mut Seat<u8, View>, start: usize, count: usize, key: u64) -> usize
+        requires seat { IsPassSeat self.now seat.old.table_id seat.old.me }
+        requires inside { start + ROW_WORDS ≤ word_count self.now.counts }
+        requires few { count ≤ MAX_FAN }
+        ensures same { IsSameSeat seat.old seat.new }
+        ensures few { LINE * result ≤ count }
+        ensures lines { (row : ℕ) (page : PlainPage) → start ≡ row_start self.now.counts row
+            → ReadsPage seat.old.me row page
+            → count ≡ length page.entries
+            → (LINE * result ≤ place_of key page.entries)
+            × (place_of key page.entries < LINE * result + LINE) }
+    {
+        let mut lines = 0;
+        for line in 0..count / LINE {
+            lines += self.one_if_below(seat, start, LINE * line + LINE - 1, key);
+        }
+        lines
+    }
+
+    // 1 if the key of the entry at this place is below `key`, and 0 if not.
+    fn one_if_below(&self, seat: &mut Seat<u8, View>, start: usize, place: usize, key: u64) -> usize
+        requires seat { IsPassSeat self.now seat.old.table_id seat.old.me }
+        requires inside { start + ROW_WORDS ≤ word_count self.now.counts }
+        requires place { place < MAX_FAN }
+        ensures same { IsSameSeat seat.old seat.new }
+        ensures at_most { result ≤ 1 }
+        ensures one { (row : ℕ) (page : PlainPage) → start ≡ row_start self.now.counts row
+            → ReadsPage seat.old.me row page
+            → place < length page.entries
+            → (place < place_of key page.entries → result ≡ 1)
+            × (place_of key page.entries ≤ place → result ≡ 0) }
+    {
+        let found = self.load_word(seat, start, HEAD_WORDS + ENTRY_WORDS * place);
+        usize::from(found < key)
+    }
+
+    // The same of any page, by one entry after another. The search begins at the hint, if that is before the place.
+    fn place_behind(
+        &self,
+        seat: &mut Seat<u8, View>,
+        start: usize,
+        count: usize,
+        key: u64,
+        hint: usize,
+    ) -> usize
+        requires seat { IsPassSeat self.now seat.old.table_id seat.old.me }
+        requires inside { start + ROW_WORDS ≤ word_count self.now.counts }
+        requires page { (row : ℕ) × (page : PlainPage) × (start ≡ row_start self.now.counts row)
+            × ReadsPage seat.old.me row page × (count ≡ length page.entries) }
+        ensures same { IsSameSeat seat.old seat.new }
+        ensures place { (row : ℕ) (page : PlainPage) → start ≡ row_start self.now.counts row
+            → ReadsPage seat.old.me row page
+            → count ≡ length page.entries
+            → result ≡ place_of key page.entries }
+    {
         let first = self.first_place(seat, start, count, key, hint);
         for place in first..count {
-            let at = HEAD_WORDS + ENTRY_WORDS * place;
-            let found = self.load_word(seat, start, at);
-            if key <= found {
-                return Some((found, self.load_word(seat, start, at + 1)));
+            if key <= self.load_word(seat, start, HEAD_WORDS + ENTRY_WORDS * place) {
+                return place;
             }
         }
-        None
+        count
     }
 
     // The place of the entry at which a search of the page may begin: the hint, if the entry before it has a lesser key; else the

@@ -51,6 +51,14 @@ ends_at key ((k, v) ∷ rest) (suc j) reached inside no_less =
     let further : j ≤ place_of key rest → place_of key rest ≡ j = λ r. ends_at key rest j r (omega (arith, inside)) no_less in
     grind (arith, nat_tests, further)
 
+-- which isn't behind it
+pub not_behind : (key : ℕ) (entries : List (ℕ × ℕ)) (j : ℕ) → j < length entries → key ≤ (get_or entries j (0, 0)).0 → place_of key entries ≤ j
+not_behind key [] j inside no_less = absurd (omega (arith, inside))
+not_behind key ((k, v) ∷ rest) zero inside no_less = grind (arith, nat_tests, no_less)
+not_behind key ((k, v) ∷ rest) (suc j) inside no_less =
+    let further = not_behind key rest j (omega (arith, inside)) no_less in
+    grind (arith, nat_tests, further)
+
 at_least_from : (entries : List (ℕ × ℕ)) (j from to : ℕ) → IsRising from entries to → j < length entries → from ≤ (get_or entries j (0, 0)).0
 at_least_from [] j from to rises inside = absurd (omega (arith, inside))
 at_least_from ((k, v) ∷ rest) zero from to rises inside = rises.0
