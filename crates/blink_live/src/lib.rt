@@ -4,6 +4,7 @@
 
 mod advance;
 mod append;
+mod approach;
 mod close;
 mod copy;
 mod deal;

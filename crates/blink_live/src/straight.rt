@@ -18,12 +18,12 @@ ghost use Rattle.blink_live.specs.declared.descent.Edit.TheVariants.{Write};
 ghost use Rattle.blink_live.specs.declared.view.View.{View};
 ghost use Rattle.blink_live.specs.AtomicSteps.{PublishesPage};
 ghost use Rattle.blink_live.specs.Pendings.{IsWaiting};
-ghost use Rattle.blink_live.specs.Seats.{HasRead, HasSameNumber, IsAtLeaf, IsPassSeat, IsSameSeat, ReadsVersion};
+ghost use Rattle.blink_live.specs.Seats.{HasSameNumber, IsPassSeat, IsSameSeat, ReadsVersion};
 ghost use Rattle.blink_live.specs.Shelves.{IsShelved};
 ghost use Rattle.blink_live.specs.Straight.{HasCome, HasMet, HasTurned, IsEditOf, IsToChange, NeedsWhole, exchange_of, holding, leaving, page_at, removal_of, wanting};
 ghost use Rattle.blink_live.specs.Updating.{CanWrite, HasRowsFor, IsUnderWay, room_in};
-ghost use Rattle.blink_live.specs.Views.{CanBegin, MayChange, for_call, known_of};
-ghost use Rattle.blink_live.specs.Words.{AreNumbersIn, AreRowsIn, IsRowNumber};
+ghost use Rattle.blink_live.specs.Views.{CanBegin, MayChange};
+ghost use Rattle.blink_live.specs.Words.{IsRowNumber};
 
 use crate::descent::{Changed, Descent, Edit, Spot, Turned};
 use crate::live::Live;
@@ -159,58 +159,6 @@ impl Live {
         match self.take_steps(seat, &mut machine, room, tries) {
             Some(answer) => Changed::Ended(answer),
             None => Changed::Rests(machine.rest()),
-        }
-    }
-
-    // Takes a new operation to the leaf of its key.
-    pub(crate) fn set_off(&self, seat: &mut Seat<u8, View>, room: &Room, op: Op) -> Descent
-        requires seat { IsPassSeat self.now seat.old.table_id seat.old.me }
-        requires idle { seat.old.me.0.operation ≡ None }
-        requires fits { FitsWords op }
-        requires updates { IsUpdate op }
-        requires can_begin { CanBegin seat.old.me.0 op }
-        requires room { room.now ≡ room_in op seat.old.me.0 room.now.shelf }
-        requires shelved { IsShelved room.now.shelf seat.old.me.0 }
-        requires enough { HasRowsFor op seat.old.me.0.rows room.now.shelf }
-        requires may { MayChange seat.old.me.0 (key_of op) }
-        ensures { IsUnderWay self.now op seat.old seat.new (wanting self.now.fan op result) room.now }
-    {
-        self.fetch_row(room.first_row());
-        self.come_to_change(seat, op)
-    }
-
-    // Brings a new operation that changes the tree to the leaf of its key. What a machine would remember is in the result.
-    fn come_to_change(&self, seat: &mut Seat<u8, View>, op: Op) -> Descent
-        requires seat { IsPassSeat self.now seat.old.table_id seat.old.me }
-        requires idle { seat.old.me.0.operation ≡ None }
-        requires fits { FitsWords op }
-        requires updates { IsUpdate op }
-        requires can_begin { CanBegin seat.old.me.0 op }
-        ensures same_table { HasSameNumber seat.old seat.new }
-        ensures rows { AreRowsIn self.now.counts seat.old.me.0.rows }
-        ensures pages { AreNumbersIn self.now.counts seat.old.me.0.pages }
-        ensures read { HasRead op (for_call seat.old.me.0 op, seat.old.me.1) seat.new.me
-            (wanting self.now.fan op result) }
-        ensures at_leaf { IsAtLeaf op (known_of seat.new.me.0 (key_of op))
-            (wanting self.now.fan op result) }
-    {
-        let (mut number, mut level) = self.root(seat, op);
-        let mut above = ArrayVec::new();
-        loop {
-            match self.read_page(seat, op.key(), number, level, 0) {
-                (Way::Right(next), ..) => number = next,
-                (Way::Down(child), ..) => {
-                    above.push(number);
-                    number = child;
-                    level -= 1;
-                }
-                (Way::Here, ..) => {
-                    return Descent {
-                        leaf: number,
-                        above,
-                    };
-                }
-            }
         }
     }
 
@@ -351,6 +299,7 @@ impl Live {
         // Read for the proof: the room's numbers are words.
         let _stop = room.rows.stop;
         let _key = op.key();
+        self.fetch_row(room.first_row());
         let mut page = self.page_in_row(seat, spot.word);
         change.apply(&mut page);
         if let Some(row) = self.lend(seat, room) {
@@ -398,6 +347,7 @@ impl Live {
             → NeedsWhole self.now op descent.now first seat.old room.old word
             → HasCome self.now op first seat.new room.new result }
     {
+        self.fetch_row(room.first_row());
         let mut machine = self.machine_at(op, descent);
         machine.done(0);
         machine.saw_own_page(self.page_in_row(seat, word));

@@ -122,8 +122,8 @@ impl Live {
         self.descend(seat, machine, op);
     }
 
-    // Loads a word of each of the row's cache lines. The call that is to store the row begins with this, so that the lines come
-    // while it descends: a store waits for its line, and no other store overtakes it.
+    // Loads a word of each of the row's cache lines, so that the lines come together, and while the call does something else: a store waits for
+    // its line, and no other store overtakes it.
     pub(crate) fn fetch_row(&self, row: u64) {
         if row == 0 || row > self.counts.rows {
             return;

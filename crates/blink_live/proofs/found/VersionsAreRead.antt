@@ -5,9 +5,10 @@ use Rattle.blink_page.specs.declared.search.Way.{Way}
 use Rattle.blink_page.specs.declared.search.Way.TheVariants.{Right, Down, Here}
 use Rattle.blink_rows.specs.{page_words, records_in, row_in}
 use Rattle.blink_rows.proofs.Offered.{row_of_row}
-use Rattle.blink_machine.specs.{PlainMachine}
+use Rattle.blink_machine.specs.declared.machine.State.{State}
+use Rattle.blink_machine.specs.{PlainMachine, at_state, level_read}
 use Rattle.blink_live.specs.AtomicSteps.{LoadsPage}
-use Rattle.blink_live.specs.Seats.{IsSaid, ReadsPage, ReadsVersion, TellsWayFor}
+use Rattle.blink_live.specs.Seats.{IsAtPage, IsSaid, ReadsPage, ReadsVersion, TellsWayFor}
 use Rattle.blink_live.specs.Views.{SeatState}
 use Rattle.blink_live.specs.Words.{IsVersion}
 use Rattle.blink_live.proofs.table.VersionsOfPages.{SameHead, alone_if_none, inner_alone, row_is_below, same_head, unlogged}
@@ -24,6 +25,14 @@ version_loaded {m} {machine} {number} {word} loads = record {
 -- the seat reads its base
 pub base_of : {me : SeatState} {word : ℕ} {page : PlainPage} → (is : ReadsVersion me word page) → ReadsPage me (row_in word) is.base
 base_of is = record { reads = is.reads; lawful = (is.version.logged is.lawful).lawful }
+
+-- and still reads a page after a load that changed nothing
+pub page_still : {me now : SeatState} {row : ℕ} {page : PlainPage} → now ≡ me → ReadsPage me row page → ReadsPage now row page
+page_still {me} {now} {row} {page} same reads = subst (λ (x : SeatState). ReadsPage x row page) (sym same) reads
+
+-- the page has the level at which the operation is
+pub its_level : {machine : PlainMachine} {key number level word : ℕ} {me then : SeatState} (at : IsAtPage me key number level) → (loads : LoadsPage at.machine number me word machine then) → loads.page.level ≡ level
+its_level at loads = loads.readable.has_level ∙ ap (λ (state : State). level_read (at_state at.machine state)) at.state
 
 -- ---- a page without records
 
@@ -50,12 +59,13 @@ leads_from_base base page key (Down child) same inner leads =
     subst (λ (p : PlainPage). Leads p key (Down child)) (inner above) leads
 leads_from_base base page key Here same inner leads = (let high = same.high in let below = leads.0 in omega (arith, high, below), same.level ∙ leads.1)
 
+-- where the base's key leads, the page's does
+pub leads_by_base : {me : SeatState} {word : ℕ} {page : PlainPage} (key : ℕ) (way : Way) → (is : ReadsVersion me word page) → Leads is.base key way → Leads page key way
+leads_by_base {me} {word} {page} key way is = leads_from_base is.base page key way (same_head is.version) (inner_alone is.version is.lawful)
+
 -- is the page's, if no record has the key
 pub way_from_base : {me : SeatState} {word : ℕ} {page : PlainPage} (key : ℕ) (way : Way) (kept : Option ℕ) → (is : ReadsVersion me word page) → value_at key page.entries ≡ value_at key is.base.entries → TellsWayFor key is.base way kept → TellsWayFor key page way kept
-way_from_base {me} {word} {page} key way kept is silent tells = record {
-  leads = leads_from_base is.base page key way (same_head is.version) (inner_alone is.version is.lawful) tells.leads;
-  maps = λ here. silent ∙ tells.maps here;
-}
+way_from_base {me} {word} {page} key way kept is silent tells = record { leads = leads_by_base key way is tells.leads; maps = λ here. silent ∙ tells.maps here }
 
 -- or a record of the key tells it
 pub said_here : {page : PlainPage} (key : ℕ) (said : Option ℕ) → IsSaid key page said → TellsWayFor key page Here said

@@ -1,13 +1,7 @@
-use Rattle.std.proofs.Common.{◌≡◌, ℕ, ◌-◌, ◌≤◌, sym, ◌∙◌, subst, arith}
-use Rattle.blink_page.specs.{PlainPage}
+use Rattle.std.proofs.Common.{◌-◌, ◌≤◌, ◌∙◌, arith}
 use Rattle.blink_page.proofs.Offered.{place_at_most}
-use Rattle.blink_live.specs.Seats.{ReadsPage}
-use Rattle.blink_live.specs.Views.{SeatState}
+use Rattle.blink_live.proofs.found.VersionsAreRead.{page_still}
 use Rattle.blink_live.proofs.live.Live.place_by_lines.Goals as goal
-
--- the seat still reads the page
-still : {me now : SeatState} {row : ℕ} {page : PlainPage} → now ≡ me → ReadsPage me row page → ReadsPage now row page
-still {me} {now} {row} {page} same reads = subst (λ (x : SeatState). ReadsPage x row page) (sym same) reads
 
 pub returns-clause-place : goal.returns-clause-place
 returns-clause-place c row page begins reads many =
@@ -18,8 +12,8 @@ returns-clause-place c row page begins reads many =
     let one_same = c.one_if_below.ensures.same.2 ∙ passed in
     let two_same = c.one_if_below-2.ensures.same.2 ∙ one_same in
     let three_same = c.one_if_below-3.ensures.same.2 ∙ two_same in
-    let one = c.one_if_below.ensures.one row page begins (still passed reads) (omega (arith, first, line, many)) in
-    let two = c.one_if_below-2.ensures.one row page begins (still one_same reads) (omega (arith, first, line, many)) in
-    let three = c.one_if_below-3.ensures.one row page begins (still two_same reads) (omega (arith, first, line, many)) in
-    let four = c.one_if_below-4.ensures.one row page begins (still three_same reads) (omega (arith, first, line, many)) in
+    let one = c.one_if_below.ensures.one row page begins (page_still passed reads) (omega (arith, first, line, many)) in
+    let two = c.one_if_below-2.ensures.one row page begins (page_still one_same reads) (omega (arith, first, line, many)) in
+    let three = c.one_if_below-3.ensures.one row page begins (page_still two_same reads) (omega (arith, first, line, many)) in
+    let four = c.one_if_below-4.ensures.one row page begins (page_still three_same reads) (omega (arith, first, line, many)) in
     grind (arith, place_at_most c.args.key page.entries, lines, many, line, c.min-first.ensures, one, two, three, four)

@@ -1,15 +1,13 @@
-use Rattle.std.proofs.Common.{◌≡◌, ℕ, ◌<◌, ap, sym, ◌∙◌, subst, arith}
+use Rattle.std.proofs.Common.{◌<◌, ap, sym, ◌∙◌, subst, arith}
 use Rattle.blink_rows.specs.{PlainCounts, row_in}
-use Rattle.blink_machine.specs.declared.machine.State.{State}
-use Rattle.blink_machine.specs.{PlainMachine, at_state, level_read, need_at}
+use Rattle.blink_machine.specs.{need_at}
 use Rattle.blink_live.specs.declared.view.Plan.{Plan}
 use Rattle.blink_live.specs.declared.view.View.{View}
-use Rattle.blink_live.specs.AtomicSteps.{LoadsPage}
-use Rattle.blink_live.specs.Seats.{IsAtPage, ReadsWay}
+use Rattle.blink_live.specs.Seats.{ReadsWay}
 use Rattle.blink_live.specs.Views.{SeatState}
 use Rattle.blink_live.specs.Words.{IsRowNumber}
 use Rattle.blink_live.proofs.found.ReadsPage.{reads_page_word}
-use Rattle.blink_live.proofs.found.VersionsAreRead.{version_loaded}
+use Rattle.blink_live.proofs.found.VersionsAreRead.{its_level, version_loaded}
 use Rattle.blink_live.proofs.live.Live.read_page.Goals as goal
 
 pub load-word-requires : goal.load-word-requires
@@ -21,10 +19,6 @@ load-word-requires c =
       reads_page_word _ _ _ _ _ at.machine c.requires.seat.role at.operation at.fits (ap need_at at.state) in_range.0
           (subst (λ (counts : PlainCounts). c.args.number < counts.numbers) c.args.self.now.counts_are in_range.1) at.announced,
     )
-
--- the page has the level at which the operation is
-its_level : {machine : PlainMachine} {key number level word : ℕ} {me then : SeatState} (at : IsAtPage me key number level) → (loads : LoadsPage at.machine number me word machine then) → loads.page.level ≡ level
-its_level at loads = loads.readable.has_level ∙ ap (λ (state : State). level_read (at_state at.machine state)) at.state
 
 pub way_in-way-requires : goal.way_in-way-requires
 way_in-way-requires c =
