@@ -410,13 +410,13 @@ impl Live {
         ensures same { HasSameNumber seat.old seat.new }
         ensures read { (word : ℕ) × LoadsPage machine.old number seat.old.me word machine.new seat.new.me }
     {
-        let word = self.load_latched(seat, number);
+        let word = self.load_page(seat, number);
         let page = self.page_in_row(seat, word);
         machine.saw_own_page(page);
     }
 
     // The step of `read_latched`, for any machine that the view's operation is: the load of the page word.
-    pub(crate) fn load_latched(&self, seat: &mut Seat<u8, View>, number: u32) -> u64
+    pub(crate) fn load_page(&self, seat: &mut Seat<u8, View>, number: u32) -> u64
         requires seat { IsPassSeat self.now seat.old.table_id seat.old.me }
         requires at { (m : PlainMachine) × (seat.old.me.0.operation ≡ Some m) × FitsWords m.op
             × NeedsPage m number }

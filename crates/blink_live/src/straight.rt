@@ -221,7 +221,7 @@ impl Live {
             → IsUnderWay self.now op first seat.old (holding self.now.fan op descent.now) _room.now
             → HasMet self.now op descent.now first seat.new _room.now result }
     {
-        let word = self.load_latched(seat, descent.leaf);
+        let word = self.load_page(seat, descent.leaf);
         match self.way_in(seat, word, 0, op.key(), 0) {
             (Way::Right(next), _) => Edit::Right(next),
             (Way::Here, kept) => edit_of(op, self.fan, self.spot_in(seat, word, kept)),

@@ -11,26 +11,26 @@ readable {m} loads same = subst (IsReadable m) (sym same) loads.readable
 
 pub saw_own_page-requires-clause-level : goal.saw_own_page-requires-clause-level
 saw_own_page-requires-clause-level c =
-    let loads = (c.load_latched-word.ensures.read c.args.machine.now c.requires.at c.requires.needs).1 in
+    let loads = (c.load_page-word.ensures.read c.args.machine.now c.requires.at c.requires.needs).1 in
     (readable loads (c.page_in_row-page.ensures.page loads.page (version_loaded loads))).has_level
 
 pub saw_own_page-requires-clause-below : goal.saw_own_page-requires-clause-below
 saw_own_page-requires-clause-below c =
-    let loads = (c.load_latched-word.ensures.read c.args.machine.now c.requires.at c.requires.needs).1 in
+    let loads = (c.load_page-word.ensures.read c.args.machine.now c.requires.at c.requires.needs).1 in
     (readable loads (c.page_in_row-page.ensures.page loads.page (version_loaded loads))).floor_below
 
 pub saw_own_page-requires-clause-at_most_fan : goal.saw_own_page-requires-clause-at_most_fan
 saw_own_page-requires-clause-at_most_fan c =
-    let loads = (c.load_latched-word.ensures.read c.args.machine.now c.requires.at c.requires.needs).1 in
+    let loads = (c.load_page-word.ensures.read c.args.machine.now c.requires.at c.requires.needs).1 in
     (readable loads (c.page_in_row-page.ensures.page loads.page (version_loaded loads))).at_most_fan
 
 pub returns-clause-read : goal.returns-clause-read
 returns-clause-read c =
     let m : PlainMachine = c.args.machine.now in
     let me : SeatState = c.args.seat.now.me in
-    let word = c.load_latched-word.result in
+    let word = c.load_page-word.result in
     let after : PlainMachine = c.saw_own_page.new.self in
-    let loads = c.load_latched-word.ensures.read m c.requires.at c.requires.needs in
+    let loads = c.load_page-word.ensures.read m c.requires.at c.requires.needs in
     let page_is = sym (c.page_in_row-page.ensures.page loads.1.page (version_loaded loads.1)) in
     let sees : SeesPage m c.args.number loads.1.page after = subst (λ (page : PlainPage). SeesPage m c.args.number page after) (sym page_is) (c.saw_own_page.ensures c.args.number c.requires.needs) in
     let same : after ≡ loads.0 = loads.1.only after sees in

@@ -1,7 +1,7 @@
 use Rattle.std.proofs.Common.{◌<◌, subst, arith}
 use Rattle.blink_rows.specs.{PlainCounts}
 use Rattle.blink_live.proofs.found.ReadsPage.{reads_page_word}
-use Rattle.blink_live.proofs.live.Live.load_latched.Goals as goal
+use Rattle.blink_live.proofs.live.Live.load_page.Goals as goal
 
 pub load-requires : goal.load-requires
 load-requires c =
