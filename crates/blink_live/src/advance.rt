@@ -13,7 +13,6 @@ use crate::error::PassError;
 use crate::live::{Live, Pass, Pending, UnderWay};
 use crate::room::next_of;
 use blink_batch::{Answer, Op};
-use blink_machine::Machine;
 use std::snapshot::Snapshot;
 
 impl Live {
@@ -180,14 +179,13 @@ impl Live {
             mut pages,
         } = pass;
         let room = next_of(op, &mut rows, &mut pages);
-        let mut machine = Machine::new(op, self.fan);
-        self.set_out(&mut seat, &mut machine, &room, op);
+        let machine = self.set_out(&mut seat, &room, op);
         let now = UnderWay {
             seat,
             keys,
             rows,
             pages,
-            machine: machine.rest(),
+            machine,
             room,
         };
         Ok(Pending { now, begun })

@@ -7,6 +7,7 @@ ghost use Rattle.blink_page.specs.{Leads, PlainPage};
 ghost use Rattle.blink_rows.specs.{row_in};
 ghost use Rattle.blink_machine.specs.{IsUpdate};
 ghost use Rattle.blink_live.specs.declared.view.View.{View};
+ghost use Rattle.blink_live.specs.Pendings.{IsWaiting};
 ghost use Rattle.blink_live.specs.Seats.{HasRead, HasSameNumber, IsAtLeaf, IsAtPage, IsPassSeat, IsSameSeat, ReadsVersion, ReadsWay};
 ghost use Rattle.blink_live.specs.Shelves.{IsShelved};
 ghost use Rattle.blink_live.specs.Straight.{wanting};
@@ -17,16 +18,34 @@ ghost use Rattle.blink_live.specs.Words.{AreNumbersIn, AreRowsIn, IsRowNumber};
 use crate::descent::Descent;
 use crate::live::Live;
 use crate::room::Room;
-use crate::rule::LoadPage;
 use crate::view::View;
 use arrayvec::ArrayVec;
 use atomic_table::Seat;
 use blink_batch::Op;
+use blink_machine::Resting;
 use blink_page::Way;
 use blink_rows::layout::{HIGH_KEY, RIGHT_LINK};
 use blink_rows::row_in;
 
 impl Live {
+    /// Takes a new operation to the leaf of its key, where it rests.
+    pub fn set_out(&self, seat: &mut Seat<u8, View>, room: &Room, op: Op) -> Resting
+        requires seat { IsPassSeat self.now seat.old.table_id seat.old.me }
+        requires idle { seat.old.me.0.operation ≡ None }
+        requires fits { FitsWords op }
+        requires updates { IsUpdate op }
+        requires can_begin { CanBegin seat.old.me.0 op }
+        requires room { room.now ≡ room_in op seat.old.me.0 room.now.shelf }
+        requires shelved { IsShelved room.now.shelf seat.old.me.0 }
+        requires enough { HasRowsFor op seat.old.me.0.rows room.now.shelf }
+        requires may { MayChange seat.old.me.0 (key_of op) }
+        ensures under_way { IsUnderWay self.now op seat.old seat.new result room.now }
+        ensures waits { IsWaiting result }
+    {
+        let descent = self.set_off(seat, room, op);
+        self.machine_at(op, &descent).rest()
+    }
+
     // Takes a new operation to the leaf of its key.
     pub(crate) fn set_off(&self, seat: &mut Seat<u8, View>, _room: &Room, op: Op) -> Descent
         requires seat { IsPassSeat self.now seat.old.table_id seat.old.me }
@@ -102,7 +121,7 @@ impl Live {
         ensures way { (at : IsAtPage seat.old.me key number 0) → (word : ℕ) × (kept : Option ℕ)
             × ReadsWay at.machine key number word seat.old.me result kept seat.new.me }
     {
-        let word = self.table.shared.load::<LoadPage>(seat, number as usize);
+        let word = self.load_page(seat, number);
         self.table.shared.peek(self.latch_place(number));
         self.fetch_row(row_in(word));
         self.side_of(seat, word, key)

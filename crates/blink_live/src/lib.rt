@@ -21,6 +21,7 @@ mod open;
 mod operations;
 mod read;
 mod retire;
+mod rewrite;
 mod room;
 mod rule;
 mod scan;

@@ -32,28 +32,6 @@ use std::marker::Brand;
 const LINE: usize = 4;
 
 impl Live {
-    // Runs the descent of an operation that has not begun, to the leaf of its key. The operation stays where its caller made it,
-    // since it is large.
-    pub(crate) fn descend(&self, seat: &mut Seat<u8, View>, machine: &mut Machine, op: Op)
-        requires seat { IsPassSeat self.now seat.old.table_id seat.old.me }
-        requires fresh { machine.old ≡ fresh self.now.fan op }
-        requires idle { seat.old.me.0.operation ≡ None }
-        requires fits { FitsWords op }
-        requires can_begin { CanBegin seat.old.me.0 op }
-        ensures same_table { HasSameNumber seat.old seat.new }
-        ensures rows { AreRowsIn self.now.counts seat.old.me.0.rows }
-        ensures pages { AreNumbersIn self.now.counts seat.old.me.0.pages }
-        ensures read { HasRead op (for_call seat.old.me.0 op, seat.old.me.1) seat.new.me machine.new }
-        ensures at_leaf { IsAtLeaf op (known_of seat.new.me.0 (key_of op)) machine.new }
-    {
-        let (root, level) = self.root(seat, op);
-        machine.saw_top(level, root);
-        while let &State::Going(number, level) = machine.state() {
-            let (way, kept, _) = self.read_page(seat, op.key(), number, level, 0);
-            machine.saw_way(way, kept);
-        }
-    }
-
     // Begins an operation, and returns the root's number and level.
     pub(crate) fn root(&self, seat: &mut Seat<u8, View>, op: Op) -> (u32, u8)
         requires seat { IsPassSeat self.now seat.old.table_id seat.old.me }
@@ -102,7 +80,7 @@ impl Live {
         ensures way { (at : IsAtPage seat.old.me key number level)
             → ReadsWay at.machine key number result.2 seat.old.me result.0 result.1 seat.new.me }
     {
-        let word = self.table.shared.load::<LoadPage>(seat, number as usize);
+        let word = self.load_page(seat, number);
         let (way, kept) = self.way_in(seat, word, level, key, hint);
         (way, kept, word)
     }
@@ -415,7 +393,7 @@ impl Live {
         machine.saw_own_page(page);
     }
 
-    // The step of `read_latched`, for any machine that the view's operation is: the load of the page word.
+    // Loads the word of the page that the operation of the view needs next.
     pub(crate) fn load_page(&self, seat: &mut Seat<u8, View>, number: u32) -> u64
         requires seat { IsPassSeat self.now seat.old.table_id seat.old.me }
         requires at { (m : PlainMachine) × (seat.old.me.0.operation ≡ Some m) × FitsWords m.op
@@ -486,7 +464,7 @@ impl Live {
     }
 
     // Loads the words of the row that begins at `start`, from `from` to before `to`.
-    fn load_words(
+    pub(crate) fn load_words(
         &self,
         seat: &mut Seat<u8, View>,
         start: usize,

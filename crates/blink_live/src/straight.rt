@@ -12,16 +12,15 @@ ghost use Rattle.blink_machine.specs.declared.machine.Job.TheVariants.{Leaf};
 ghost use Rattle.blink_machine.specs.declared.machine.Next.TheVariants.{Finish, MoveRight};
 ghost use Rattle.blink_machine.specs.declared.machine.State.{State};
 ghost use Rattle.blink_machine.specs.declared.machine.State.TheVariants.{Ended, Held, Leave};
-ghost use Rattle.blink_machine.specs.{IsUpdate, NeedsWrite, PlainMachine, page_out};
+ghost use Rattle.blink_machine.specs.{IsUpdate, PlainMachine};
 ghost use Rattle.blink_live.specs.declared.descent.Changed.{Changed};
 ghost use Rattle.blink_live.specs.declared.descent.Edit.TheVariants.{Write};
 ghost use Rattle.blink_live.specs.declared.view.View.{View};
-ghost use Rattle.blink_live.specs.AtomicSteps.{PublishesPage};
 ghost use Rattle.blink_live.specs.Pendings.{IsWaiting};
-ghost use Rattle.blink_live.specs.Seats.{HasSameNumber, IsPassSeat, IsSameSeat, ReadsVersion};
+ghost use Rattle.blink_live.specs.Seats.{IsPassSeat, IsSameSeat, ReadsVersion};
 ghost use Rattle.blink_live.specs.Shelves.{IsShelved};
 ghost use Rattle.blink_live.specs.Straight.{HasCome, HasMet, HasTurned, IsEditOf, IsToChange, NeedsWhole, exchange_of, holding, leaving, page_at, removal_of, wanting};
-ghost use Rattle.blink_live.specs.Updating.{CanWrite, HasRowsFor, IsUnderWay, room_in};
+ghost use Rattle.blink_live.specs.Updating.{HasRowsFor, IsUnderWay, room_in};
 ghost use Rattle.blink_live.specs.Views.{CanBegin, MayChange};
 ghost use Rattle.blink_live.specs.Words.{IsRowNumber};
 
@@ -33,9 +32,9 @@ use arrayvec::ArrayVec;
 use atomic_table::Seat;
 use blink_batch::{Answer, Op};
 use blink_machine::{Machine, Resting};
-use blink_page::{LEVELS, Page, Way};
-use blink_rows::layout::{COUNT, ENTRY_WORDS};
-use blink_rows::{HEAD_WORDS, Kind, Record, page_row, records_in, row_in};
+use blink_page::{LEVELS, Way};
+use blink_rows::layout::COUNT;
+use blink_rows::{Kind, Record, records_in, row_in};
 use std::hint;
 
 impl Live {
@@ -277,58 +276,6 @@ impl Live {
         self.put_leaf(seat, room, op, descent, spot, change);
     }
 
-    // Writes the next version of the leaf without records, and puts the row of the version before on the shelf. The version stands in
-    // a free row of the shelf, or else in the first row of the room.
-    #[inline(never)]
-    fn put_leaf(
-        &self,
-        seat: &mut Seat<u8, View>,
-        room: &mut Room,
-        op: Op,
-        descent: &Descent,
-        spot: &Spot,
-        change: &Record,
-    )
-        requires changes { (first : Seat ℕ View)
-            × IsToChange self.now op descent.now first seat.old room.old spot.now change.now }
-        ensures { (first : Seat ℕ View)
-            → IsToChange self.now op descent.now first seat.old room.old spot.now change.now
-            → IsUnderWay self.now op first seat.new (leaving self.now.fan op descent.now spot.now.kept)
-            room.new }
-    {
-        // Read for the proof: the room's numbers are words.
-        let _stop = room.rows.stop;
-        let _key = op.key();
-        self.fetch_row(room.first_row());
-        let mut page = self.page_in_row(seat, spot.word);
-        change.apply(&mut page);
-        if let Some(row) = self.lend(seat, room) {
-            let out = self.write_leaf(seat, descent.leaf, row, &page);
-            self.put_rows_back(seat);
-            Self::keep_out(seat, room, out);
-            return;
-        }
-        let out = self.write_leaf(seat, descent.leaf, room.rows.next, &page);
-        room.rows.next += 1;
-        Self::keep_out(seat, room, out);
-    }
-
-    // Writes the version of the page of this number into the row, the first of the call's, and names it in the page word. Returns the
-    // row of the version before.
-    fn write_leaf(&self, seat: &mut Seat<u8, View>, number: u32, row: u64, page: &Page) -> u64
-        requires can { (m : PlainMachine) × CanWrite self.now m row seat.old
-            × NeedsWrite m number × (page.now ≡ page_out m 0) }
-        requires in_range { (1 ≤ number) × (number < self.now.counts.numbers) }
-        ensures same { HasSameNumber seat.old seat.new }
-        ensures published { (m : PlainMachine) → seat.old.me.0.operation ≡ Some m → NeedsWrite m number
-            → PublishesPage number result m seat.old.me seat.new.me }
-    {
-        let words = page_row(page);
-        let count = HEAD_WORDS + ENTRY_WORDS * page.items.len();
-        self.stage_row(seat, row, &words[..count]);
-        self.name_row(seat, number, row)
-    }
-
     // Reads the whole leaf whose latch the operation holds, and goes on as an operation with a machine does.
     #[cold]
     #[inline(never)]
@@ -391,9 +338,8 @@ impl Live {
     }
 
     // The machine of an operation that wants its leaf's latch.
-    #[cold]
     #[inline(never)]
-    fn machine_at(&self, op: Op, descent: &Descent) -> Machine
+    pub(crate) fn machine_at(&self, op: Op, descent: &Descent) -> Machine
         requires fits { FitsWords op }
         requires updates { IsUpdate op }
         ensures { result ≡ wanting self.now.fan op descent.now }

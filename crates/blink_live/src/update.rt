@@ -103,25 +103,6 @@ impl Live {
         unreachable!()
     }
 
-    // Takes a new operation to the leaf of its key. The operation stays where its caller made it, since it is large.
-    pub fn set_out(&self, seat: &mut Seat<u8, View>, machine: &mut Machine, room: &Room, op: Op)
-        requires seat { IsPassSeat self.now seat.old.table_id seat.old.me }
-        requires fresh { machine.old ≡ fresh self.now.fan op }
-        requires idle { seat.old.me.0.operation ≡ None }
-        requires fits { FitsWords op }
-        requires updates { IsUpdate op }
-        requires can_begin { CanBegin seat.old.me.0 op }
-        requires room { room.now ≡ room_in op seat.old.me.0 room.now.shelf }
-        requires shelved { IsShelved room.now.shelf seat.old.me.0 }
-        requires enough { HasRowsFor op seat.old.me.0.rows room.now.shelf }
-        requires may { MayChange seat.old.me.0 (key_of op) }
-        ensures under_way { IsUnderWay self.now op seat.old seat.new machine.new room.now }
-        ensures waits { IsWaiting machine.new }
-    {
-        self.fetch_row(room.first_row());
-        self.descend(seat, machine, op);
-    }
-
     // Loads a word of each of the row's cache lines, so that the lines come together, and while the call does something else: a store waits for
     // its line, and no other store overtakes it.
     pub(crate) fn fetch_row(&self, row: u64) {

@@ -21,7 +21,6 @@ use crate::steps::mark_place;
 use crate::waiting::BATCH_ROWS;
 use blink_batch::{Answer, Op};
 use blink_live::{Changed, Live};
-use blink_machine::Machine;
 use blink_rows::Span;
 use std::snapshot::Snapshot;
 
@@ -102,15 +101,14 @@ impl Member {
         } = self;
         mark_place(live, &mut seat, place, next_mark(&mut mark));
         let room = room_of(op, &rows, &pages, shelf);
-        let mut machine = Machine::new(op, live.fan());
-        live.set_out(&mut seat, &mut machine, &room, op);
+        let machine = live.set_out(&mut seat, &room, op);
         mark_place(live, &mut seat, place, REST);
         UnderWay {
             seat,
             rows,
             pages,
             place,
-            machine: machine.rest(),
+            machine,
             room,
             mark,
         }

@@ -1,6 +1,5 @@
 use Rattle.std.proofs.Common.{◌≡◌, ◌∙◌, sym, ap, subst, refl}
 use Rattle.blink_batch.specs.declared.Op.{Op}
-use Rattle.blink_machine.specs.{PlainMachine}
 use Rattle.blink_live.specs.declared.live.Live.{Live}
 use Rattle.blink_live.specs.declared.live.Pass.{Pass}
 use Rattle.blink_live.specs.declared.live.Pending.{Pending}
@@ -46,35 +45,35 @@ pub next_of-room-requires-clause-some_row : goal.next_of-room-requires-clause-so
 next_of-room-requires-clause-some_row c =
     (can_set_out c.args.self.now c.args.op c.args.pass c.requires.its_own c.requires.updates c.in_default.ensures.own_key c.in_default.ensures.some_left).some_row
 
-pub set_out-requires-clause-seat : goal.set_out-requires-clause-seat
-set_out-requires-clause-seat c =
+pub set_out-machine-requires-clause-seat : goal.set_out-machine-requires-clause-seat
+set_out-machine-requires-clause-seat c =
     (can_set_out c.args.self.now c.args.op c.args.pass c.requires.its_own c.requires.updates c.in_default.ensures.own_key c.in_default.ensures.some_left).seat
 
-pub set_out-requires-clause-can_begin : goal.set_out-requires-clause-can_begin
-set_out-requires-clause-can_begin c =
+pub set_out-machine-requires-clause-can_begin : goal.set_out-machine-requires-clause-can_begin
+set_out-machine-requires-clause-can_begin c =
     (can_set_out c.args.self.now c.args.op c.args.pass c.requires.its_own c.requires.updates c.in_default.ensures.own_key c.in_default.ensures.some_left).can_begin
 
-pub set_out-requires-clause-room : goal.set_out-requires-clause-room
-set_out-requires-clause-room c =
+pub set_out-machine-requires-clause-room : goal.set_out-machine-requires-clause-room
+set_out-machine-requires-clause-room c =
     let can = can_set_out c.args.self.now c.args.op c.args.pass c.requires.its_own c.requires.updates c.in_default.ensures.own_key c.in_default.ensures.some_left in
     with_its_shelf c.args.op c.args.pass.seat.me.0 c.next_of-room.result (c.next_of-room.ensures.room ∙ can.same_room)
 
-pub set_out-requires-clause-may : goal.set_out-requires-clause-may
-set_out-requires-clause-may c =
+pub set_out-machine-requires-clause-may : goal.set_out-machine-requires-clause-may
+set_out-machine-requires-clause-may c =
     (can_set_out c.args.self.now c.args.op c.args.pass c.requires.its_own c.requires.updates c.in_default.ensures.own_key c.in_default.ensures.some_left).may
 
-pub set_out-requires-clause-enough : goal.set_out-requires-clause-enough
-set_out-requires-clause-enough c =
+pub set_out-machine-requires-clause-enough : goal.set_out-machine-requires-clause-enough
+set_out-machine-requires-clause-enough c =
     has_its_shelf _ _ _ (ap (λ (r : Room). r.shelf) c.next_of-room.ensures.room) (can_set_out c.args.self.now c.args.op c.args.pass c.requires.its_own c.requires.updates c.in_default.ensures.own_key c.in_default.ensures.some_left).enough
 
 pub returns-clause-begun : goal.returns-clause-begun
-returns-clause-begun c = has_begun c.args.self.now c.args.op c.args.pass _ c.of-begun.ensures c.requires.its_own (subst (λ (m : PlainMachine). IsUnderWay c.args.self.now c.args.op c.args.pass.seat c.set_out.new.seat m c.next_of-room.result) (sym c.rest.ensures) c.set_out.ensures.under_way) record {
+returns-clause-begun c = has_begun c.args.self.now c.args.op c.args.pass _ c.of-begun.ensures c.requires.its_own c.set_out-machine.ensures.under_way record {
   own_key = c.in_default.ensures.own_key;
   some_left = c.in_default.ensures.some_left;
   same_keys = refl;
   rows_are = c.next_of-room.ensures.rows;
   pages_are = c.next_of-room.ensures.pages;
-} (subst IsWaiting (sym c.rest.ensures) c.set_out.ensures.waits)
+} c.set_out-machine.ensures.waits
 
 pub returns-clause-not_yours : goal.returns-clause-not_yours
 returns-clause-not_yours c = no_refusal _ _ (λ foreign. foreign c.in_default.ensures.own_key)

@@ -1,4 +1,4 @@
-use Rattle.std.proofs.Common.{◌<◌, refl, ap, sym, ◌∙◌, subst, arith}
+use Rattle.std.proofs.Common.{refl, ap, sym, ◌∙◌, subst}
 use Rattle.blink_page.specs.{value_at}
 use Rattle.blink_rows.specs.{PlainCounts, row_in}
 use Rattle.blink_machine.specs.{need_at}
@@ -7,25 +7,20 @@ use Rattle.blink_live.specs.declared.view.View.{View}
 use Rattle.blink_live.specs.Seats.{ReadsWay}
 use Rattle.blink_live.specs.Views.{SeatState}
 use Rattle.blink_live.specs.Words.{IsRowNumber}
-use Rattle.blink_live.proofs.found.ReadsPage.{reads_page_word}
 use Rattle.blink_live.proofs.found.VersionsAreRead.{its_level, version_loaded}
 use Rattle.blink_live.proofs.live.Live.reach_leaf.Goals as goal
 
-pub load-word-requires : goal.load-word-requires
-load-word-requires c =
-    let in_range = c.requires.in_range in
-    let at = c.requires.at in (
-      c.requires.seat.same_table,
-      omega (arith, c.args.self.now.width, in_range),
-      reads_page_word _ _ _ _ _ at.machine c.requires.seat.role at.operation at.fits (ap need_at at.state) in_range.0
-          (subst (λ (counts : PlainCounts). c.args.number < counts.numbers) c.args.self.now.counts_are in_range.1) at.announced,
-    )
+pub load_page-word-requires-clause-at : goal.load_page-word-requires-clause-at
+load_page-word-requires-clause-at c = let at = c.requires.at in (at.machine, at.operation, at.fits, ap need_at at.state)
+
+pub load_page-word-requires-clause-announced : goal.load_page-word-requires-clause-announced
+load_page-word-requires-clause-announced c = c.requires.at.announced
 
 pub side_of-requires-clause-seat : goal.side_of-requires-clause-seat
 side_of-requires-clause-seat c =
     let at = c.requires.at in
-    let same = ap (λ (x : SeatState). x.0) (c.load-word.ensures.2 at.machine at.operation (ap need_at at.state)).1.is in record {
-      same_table = c.load-word.ensures.0 ∙ c.requires.seat.same_table;
+    let same = ap (λ (x : SeatState). x.0) (c.load_page-word.ensures.read at.machine at.operation (ap need_at at.state)).1.is in record {
+      same_table = c.load_page-word.ensures.same.0 ∙ c.requires.seat.same_table;
       same_plan = ap (λ (v : View). v.plan) same ∙ c.requires.seat.same_plan;
       role = ap (λ (v : View). v.role) same ∙ c.requires.seat.role;
     }
@@ -33,20 +28,20 @@ side_of-requires-clause-seat c =
 pub side_of-requires-clause-row : goal.side_of-requires-clause-row
 side_of-requires-clause-row c =
     let at = c.requires.at in
-    let loads = (c.load-word.ensures.2 at.machine at.operation (ap need_at at.state)).1 in
-    subst (λ (counts : PlainCounts). IsRowNumber counts (row_in c.load-word.result)) (ap (λ (p : Plan). p.counts) c.requires.seat.same_plan ∙ sym c.args.self.now.counts_are) loads.row_in_range
+    let loads = (c.load_page-word.ensures.read at.machine at.operation (ap need_at at.state)).1 in
+    subst (λ (counts : PlainCounts). IsRowNumber counts (row_in c.load_page-word.result)) (ap (λ (p : Plan). p.counts) c.requires.seat.same_plan ∙ sym c.args.self.now.counts_are) loads.row_in_range
 
 pub side_of-requires-clause-page : goal.side_of-requires-clause-page
 side_of-requires-clause-page c =
     let at = c.requires.at in
-    let loads = (c.load-word.ensures.2 at.machine at.operation (ap need_at at.state)).1 in
+    let loads = (c.load_page-word.ensures.read at.machine at.operation (ap need_at at.state)).1 in
     (loads.page, version_loaded loads, its_level at loads)
 
 pub returns-clause-way : goal.returns-clause-way
 returns-clause-way c at =
-    let loads = c.load-word.ensures.2 at.machine at.operation (ap need_at at.state) in
+    let loads = c.load_page-word.ensures.read at.machine at.operation (ap need_at at.state) in
     let page = loads.1.page in
-    let word = c.load-word.result in
+    let word = c.load_page-word.result in
     let kept = value_at c.args.key page.entries in (
       word,
       kept,

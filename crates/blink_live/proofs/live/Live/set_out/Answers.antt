@@ -1,11 +1,11 @@
-use Rattle.blink_live.proofs.changed.UpdatesBegin.{can_update, is_under_way, some_latch_for, waits_at_leaf}
+use Rattle.std.proofs.Common.{◌∙◌, refl, sym, subst}
+use Rattle.blink_machine.specs.{PlainMachine}
+use Rattle.blink_live.specs.Pendings.{IsWaiting}
+use Rattle.blink_live.specs.Updating.{IsUnderWay}
 use Rattle.blink_live.proofs.live.Live.set_out.Goals as goal
 
-pub returns : goal.returns
-returns c =
-    let descended = c.descend.ensures in record {
-      under_way = is_under_way c.args.self.now c.args.op c.args.seat.now c.descend.new.seat c.descend.new.machine c.args.room.now
-          (can_update c.args.self.now c.args.op c.args.seat.now c.requires.seat c.requires.updates c.requires.fits c.requires.may c.requires.can_begin descended.rows descended.pages (some_latch_for c.args.op c.args.seat.now.me.0 c.args.room.now.shelf c.requires.updates c.requires.enough c.requires.shelved c.requires.can_begin.rows descended.rows.0))
-          descended.same_table descended.read descended.at_leaf c.requires.room c.requires.shelved c.requires.enough;
-      waits = waits_at_leaf c.args.op _ c.descend.new.machine c.requires.updates descended.at_leaf;
-    }
+pub returns-clause-under_way : goal.returns-clause-under_way
+returns-clause-under_way c = subst (λ (m : PlainMachine). IsUnderWay c.args.self.now c.args.op c.args.seat.now c.set_off-descent.new.seat m c.args.room.now) (sym (c.rest.ensures ∙ c.machine_at.ensures)) c.set_off-descent.ensures
+
+pub returns-clause-waits : goal.returns-clause-waits
+returns-clause-waits c = subst IsWaiting (sym (c.rest.ensures ∙ c.machine_at.ensures)) (IsWaiting.for_latch c.set_off-descent.result.leaf refl)
