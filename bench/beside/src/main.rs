@@ -5,6 +5,8 @@
 //! beside TABLES SHORT PLOT ALL
 //!                        also puts the tables between the markers of the first file, the ratios that most callers want between those of
 //!                        the second, the plot into the third, and all figures into the fourth
+//! beside rounds COUNT GROUP [SIDE ..]
+//!                        measures one group of workloads so many times, by these sides or by all, and prints its figures
 //! beside again FIGURES [TABLES SHORT PLOT ALL]
 //!                        tells again what was measured, of the file of all figures
 //! beside small           runs a little of every workload, to see that the answers are right, and prints nothing
@@ -41,7 +43,7 @@ use map::Map;
 use ours::{ByIndex, ByMap, ByTable};
 use plan::Scale;
 use report::Report;
-use rounds::{measure, room};
+use rounds::{measure, room, Choice};
 use shards::Shards;
 use std::error::Error;
 use std::path::Path;
@@ -99,12 +101,20 @@ fn tell(report: &Report, into: Option<Into>) -> Result<(), Box<dyn Error>> {
 }
 
 fn all(into: Option<Into>) -> Result<(), Box<dyn Error>> {
-    tell(&Report::of(&measure(Scale { small: false }, false)?), into)
+    let scale = Scale { small: false };
+    tell(&Report::of(&measure(scale, false, &Choice::all(scale))?), into)
+}
+
+// A line for each row and side: the median, the least and the greatest.
+fn some(choice: &Choice) -> Result<(), Box<dyn Error>> {
+    print!("{}", report::figures(&Report::of(&measure(Scale { small: false }, false, choice)?)));
+    Ok(())
 }
 
 fn small(planted: bool) -> Result<(), Box<dyn Error>> {
     // The tables and the plot are made, so that they can't break unseen.
-    let report = Report::of(&measure(Scale { small: true }, planted)?);
+    let scale = Scale { small: true };
+    let report = Report::of(&measure(scale, planted, &Choice::all(scale))?);
     let again = Report::read(&report::figures(&report))?;
     if report::figures(&again) != report::figures(&report) || report::markdown(&again).is_empty() || report::summary(&again).is_empty() || plot::svg(&again).is_empty() {
         return Err("figures are read otherwise than they were written".into());
@@ -149,6 +159,7 @@ fn main() -> Result<(), Box<dyn Error>> {
         ["script", "make"] => script::make(3_999),
         ["script", "make", "small"] => script::make(39),
         ["script", "run"] => script::run(),
+        ["rounds", rounds, group, sides @ ..] => some(&Choice { group: Some(*group), sides, rounds: rounds.parse()? }),
         ["again", figures] => tell(&Report::read(&fs::read_to_string(figures)?)?, None),
         ["again", figures, document, other, picture, all] => {
             tell(&Report::read(&fs::read_to_string(figures)?)?, Some([document, other, picture, all]))

@@ -176,11 +176,50 @@ fn figure(told: &Told, row: &plan::Row, name: &str) -> Option<f64> {
     }
 }
 
-/// Measures all. The sides take turns within a round, and begin at another one in each.
-pub fn measure(scale: Scale, planted: bool) -> Result<Measured, Box<dyn Error>> {
+/// What is measured: the group of workloads of this name, or all groups; the sides of these names, or all sides; and how often.
+pub struct Choice<'a> {
+    pub group: Option<&'a str>,
+    pub sides: &'a [&'a str],
+    pub rounds: usize,
+}
+
+impl Choice<'_> {
+    /// All groups and all sides.
+    pub fn all(scale: Scale) -> Choice<'static> {
+        Choice { group: None, sides: &[], rounds: scale.rounds() }
+    }
+
+    // The groups of the choice.
+    fn groups(&self, scale: Scale) -> Result<Vec<Group>, Box<dyn Error>> {
+        let mut groups = plan::groups(scale);
+        if let Some(name) = self.group {
+            groups.retain(|group| group.name == name);
+        }
+        match groups.is_empty() {
+            true => Err("no group of workloads has this name".into()),
+            false => Ok(groups),
+        }
+    }
+
+    // The sides of the choice.
+    fn peers(&self, only_own: bool) -> Result<Vec<Peer>, Box<dyn Error>> {
+        let mut peers = peers(only_own)?;
+        if self.sides.is_empty() {
+            return Ok(peers);
+        }
+        if let Some(name) = self.sides.iter().find(|name| peers.iter().all(|peer| peer.name != **name)) {
+            return Err(format!("no side has this name: {name}").into());
+        }
+        peers.retain(|peer| self.sides.contains(&peer.name));
+        Ok(peers)
+    }
+}
+
+/// Measures what is chosen. The sides take turns within a round, and begin at another one in each.
+pub fn measure(scale: Scale, planted: bool, choice: &Choice) -> Result<Measured, Box<dyn Error>> {
     let room = room();
     fs::create_dir_all(&room)?;
-    let mut groups = plan::groups(scale);
+    let mut groups = choice.groups(scale)?;
     if planted {
         groups[0].expected[0].answers[0] ^= 1;
     }
@@ -194,9 +233,9 @@ pub fn measure(scale: Scale, planted: bool) -> Result<Measured, Box<dyn Error>> 
         workload::write(file, &group.cases)?;
         group.cases.clear();
     }
-    let peers = peers(planted)?;
+    let peers = choice.peers(planted)?;
     let mut figures = Figures::new();
-    for round in 0..scale.rounds() {
+    for round in 0..choice.rounds {
         for (number, (group, file)) in groups.iter().zip(&files).enumerate() {
             for turn in 0..peers.len() {
                 let column = (turn + round) % peers.len();
@@ -209,7 +248,7 @@ pub fn measure(scale: Scale, planted: bool) -> Result<Measured, Box<dyn Error>> 
             }
         }
         if !scale.small {
-            eprintln!("round {} of {} is measured", round + 1, scale.rounds());
+            eprintln!("round {} of {} is measured", round + 1, choice.rounds);
         }
     }
     for file in files.iter().chain([&warm]) {
