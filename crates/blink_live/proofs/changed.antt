@@ -13,7 +13,6 @@ pub mod CallsWrite
 pub mod StepsOfUpdates
 pub mod UpdatesGoOn
 pub mod LeavesAreChanged
-pub mod LeavesAreRewritten
 pub mod MachinesAreMade
 pub mod LatchesAreLeft
 pub mod PassesComeBack

@@ -78,7 +78,7 @@ impl Live {
 }
 
 // Applies a record to the copied entries, which are the first of the slice. Returns how many there are then.
-pub(crate) fn edit_one(leaf: &mut [Entry], filled: usize, change: &Record) -> usize
+fn edit_one(leaf: &mut [Entry], filled: usize, change: &Record) -> usize
     requires room { filled < length leaf.old }
     ensures width { length leaf.new ≡ length leaf.old }
     ensures one_more { result ≤ filled + 1 }

@@ -464,7 +464,7 @@ impl Live {
     }
 
     // Loads the words of the row that begins at `start`, from `from` to before `to`.
-    pub(crate) fn load_words(
+    fn load_words(
         &self,
         seat: &mut Seat<u8, View>,
         start: usize,

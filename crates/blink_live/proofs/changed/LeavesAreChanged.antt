@@ -27,7 +27,7 @@ use Rattle.blink_live.specs.Shelves.{IsLent, IsSameBesideShelf, IsShelved, IsShe
 use Rattle.blink_live.specs.Straight.{HasMet, IsEditOf, IsSpot, IsToChange, Makes, NeedsWhole, added_nothing, at_leaf, changing, holding, leaving}
 use Rattle.blink_live.specs.Updating.{CanWrite, HasLeft, IsUnderWay, IsUpdating, UsesSpareFirst}
 use Rattle.blink_live.specs.Views.{appending_at, IsCommon, IsOwned, SeatState, for_call, no_aside, takes_out}
-use Rattle.blink_live.specs.Words.{BeginWith, IsRowNumber, IsVersion}
+use Rattle.blink_live.specs.Words.{IsRowNumber, IsVersion}
 use Rattle.blink_live.proofs.changed.CallsWrite.{writes_lent, writes_own}
 use Rattle.blink_live.proofs.changed.UpdatesGoOn as on
 use Rattle.blink_live.proofs.found.VersionsAreRead.{version_loaded}
@@ -130,16 +130,16 @@ module _ {live : Live} {op : Op} {descent : Descent} {first seat : Seat ℕ View
     its_operation = on.is_its_operation under_way_still (λ ends. absurd (cc))
 
     module _ (next : Seat ℕ View) (same : HasSameNumber read next) where
-      abbrev CanWriteLeaf : ℕ → List ℕ → Type 0
-      CanWriteLeaf row words = (m : PlainMachine) × CanWrite live m row next × NeedsWrite m descent.leaf × BeginWith words (page_words (page_out m 0))
+      abbrev CanWriteLeaf : ℕ → PlainPage → Type 0
+      CanWriteLeaf row page = (m : PlainMachine) × CanWrite live m row next × NeedsWrite m descent.leaf × (page ≡ page_out m 0)
 
       -- a row that the shelf has lent
-      pub lent_leaf : (then : Room) (row : ℕ) (words : List ℕ) → BeginWith words (page_words (page_after to.page r)) → IsLent row read.me next.me then → IsRowNumber live.counts row → CanWriteLeaf row words
-      lent_leaf then row words is lent in_range = (writing, writes_lent live op first read next writing room then under_way_still (λ ends. absurd (cc)) same row lent in_range, refl, is)
+      pub lent_leaf : (then : Room) (row : ℕ) (page : PlainPage) → page ≡ page_after to.page r → IsLent row read.me next.me then → IsRowNumber live.counts row → CanWriteLeaf row page
+      lent_leaf then row page is lent in_range = (writing, writes_lent live op first read next writing room then under_way_still (λ ends. absurd (cc)) same row lent in_range, refl, is)
 
       -- or one of its own
-      pub own_leaf : (then : Room) (words : List ℕ) → BeginWith words (page_words (page_after to.page r)) → next.me ≡ read.me → IsSameBesideShelf room then → free_in room.shelf ≡ 0 → CanWriteLeaf then.rows.next words
-      own_leaf then words is none same_room none_free =
+      pub own_leaf : (then : Room) (page : PlainPage) → page ≡ page_after to.page r → next.me ≡ read.me → IsSameBesideShelf room then → free_in room.shelf ≡ 0 → CanWriteLeaf then.rows.next page
+      own_leaf then page is none same_room none_free =
           (writing, writes_own live op first read next writing room then under_way_still (λ ends. absurd (cc)) same none same_room (on.row_for_page under_way_still descent.leaf refl none_free), refl, is)
 
     -- it is still a pass's seat

@@ -50,7 +50,7 @@ kind_there before (x ∷ older) r newer none = kind_there (4 * before + kind_num
 -- ---- one record more
 
 -- a change that fits the page edits what the page says
-pub edited : (kind : Kind) (key pointer : ℕ) (page : PlainPage) (later : ℕ → Option ℕ) → Finds MAX_FAN page key kind → later key ≡ pointer_by kind pointer → ((other : ℕ) → key ≢ other → later other ≡ pointers_in page other) → IsEdited kind key pointer (pointers_in page) later
+edited : (kind : Kind) (key pointer : ℕ) (page : PlainPage) (later : ℕ → Option ℕ) → Finds MAX_FAN page key kind → later key ≡ pointer_by kind pointer → ((other : ℕ) → key ≢ other → later other ≡ pointers_in page other) → IsEdited kind key pointer (pointers_in page) later
 edited Replaced key pointer page later finds here others = record { there = finds; here = here; others = others }
 edited Added key pointer page later finds here others = record { absent = finds.1; here = here; others = others }
 edited Removed key pointer page later finds here others = record { there = finds; gone = here; others = others }
