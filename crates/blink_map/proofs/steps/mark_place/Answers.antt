@@ -23,3 +23,18 @@ store-requires c =
       subst (λ (n : ℕ). Allows (IsTable plan) slots c.args.seat.now.id me n (λ k. c.args.busy) (λ k. marks_place (step slots n c.args.busy 0 none) me c.args.busy)) at
           (place_is_marked plan slots c.args.seat.now.id c.args.busy me c.requires.seat.role common some_number c.requires.idle),
     )
+
+pub overflow_mul-place : goal.overflow_mul-place
+overflow_mul-place c = let inside = c.requires.place.1 in omega (arith, c.args.live.now.width, inside, c.word_count-count.ensures, c.word_count-count.type_inv)
+
+pub overflow_add-start : goal.overflow_add-start
+overflow_add-start c = let inside = c.requires.place.1 in omega (arith, c.args.live.now.width, inside, c.word_count-start.ensures, c.word_count-count.ensures, c.word_count-count.type_inv)
+
+pub returns-clause-same : goal.returns-clause-same
+returns-clause-same c = (c.store.ensures.0, c.store.ensures.1)
+
+pub returns-clause-marked : goal.returns-clause-marked
+returns-clause-marked c = c.store.ensures.2.is
+
+pub returns-clause-authors : goal.returns-clause-authors
+returns-clause-authors c = c.store.ensures.2.authors
