@@ -89,13 +89,14 @@ fn each_operation_passes_the_gate_twice(rt: HostRuntime) {
 
 // Each operation waits, before its first step, until the other has come to its own. One thread can't pass, in either order.
 #[derive(Drop)]
-struct MeetingGate {
+struct MeetingGate<'a, R: Clock> {
+    clock: &'a R,
     first: AtomicU64,
     second: AtomicU64,
     alone: AtomicU64,
 }
 
-impl Gate for MeetingGate {
+impl<R: Clock> Gate for MeetingGate<'_, R> {
     fn before(&self, _worker: u8, op: u32) {
         let (own, other) = if op == 0 {
             (&self.first, &self.second)
@@ -107,7 +108,7 @@ impl Gate for MeetingGate {
             if other.load(Ordering::SeqCst) == 1 {
                 return;
             }
-            thread::yield_now();
+            thread::sleep(self.clock, Duration::from_micros(10));
         }
         self.alone.store(1, Ordering::SeqCst);
     }
@@ -118,8 +119,9 @@ impl Gate for MeetingGate {
 // Two insertions into an empty index, one by each worker.
 const TWO: [Op; 2] = [Op::Insert(1, 10), Op::Insert(2, 20)];
 
-fn expect_meeting<R: Threads + Wait + Abort + Sync>(rt: &R, alloc: Global, driver: Driver) {
+fn expect_meeting<R: Threads + Wait + Clock + Abort + Sync>(rt: &R, alloc: Global, driver: Driver) {
     let gate = MeetingGate {
+        clock: rt,
         first: AtomicU64::new(0),
         second: AtomicU64::new(0),
         alone: AtomicU64::new(0),
