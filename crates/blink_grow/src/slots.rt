@@ -15,12 +15,14 @@ pub(crate) const SLOT_WORDS: usize = 8;
 
 /// A session of a map, with an owner of the map, and the map's number: how often there was a renewal before. The changes that the session
 /// has made in the map are counted, up to the greatest number of 64 bits, which says that they are too many.
+///
+/// The session comes last. It ends with what few calls touch, so that what they write in one slot isn't in a line with the next slot.
 #[derive(Drop)]
 pub struct Current {
     pub map: Arc<Map>,
-    pub session: Session,
     pub number: u64,
     pub changes: u64,
+    pub session: Session,
 }
 
 /// The index that the first map was opened over, and the number of slots.

@@ -10,17 +10,20 @@ use blink_machine::Resting;
 use blink_rows::Span;
 
 /// It rests at its place while no session has the place, and keeps what the last session left.
+///
+/// The fields lie as they stand here. What each call writes comes first, and last what few calls touch: where members lie side by side, as
+/// the sessions of a growing map do, no line of the processor's cache has what two of them write in each call.
 #[derive(Drop)]
 pub(crate) struct Member {
     pub seat: Seat<u8, View>,
-    pub rows: Span,
-    pub pages: Span,
     // The number of its place in the tree's table.
     pub place: u64,
-    // The rows that the member's changes have taken out, and their way back.
-    pub shelf: Option<Shelf>,
     // The mark that its place had last while it worked.
     pub mark: u64,
+    pub rows: Span,
+    pub pages: Span,
+    // The rows that the member's changes have taken out, and their way back.
+    pub shelf: Option<Shelf>,
     ghost rows_are: { rows ≡ seat.me.0.rows },
     ghost pages_are: { pages ≡ seat.me.0.pages },
     ghost place_is: { (place ≡ seat.me.0.place) × (place < seat.me.0.plan.places) },

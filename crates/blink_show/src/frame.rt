@@ -19,7 +19,7 @@ pub(crate) struct TakenTurn<'a> {
 
 /// A text that grows by frames. Beside it stands what the next frame is compared with: the lines of the last
 /// frame, and the number of operations that had decided then.
-#[derive(Debug, Drop)]
+#[derive(Drop)]
 pub(crate) struct Film {
     pub alloc: Global,
     pub text: String,

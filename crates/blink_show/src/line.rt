@@ -25,7 +25,7 @@ impl fmt::Display for Answered {
     fn fmt<W: fmt::Write>(&self, f: &mut fmt::Formatter<W>) -> fmt::Result {
         match self.0 {
             Some(Some(answer)) => write!(f, "{answer}"),
-            Some(None) | None => write!(f, "-"),
+            Some(None) | None => f.write_str("-"),
         }
     }
 }
@@ -91,7 +91,7 @@ fn push_working(line: &mut String, working: Option<&Working>) -> Result<(), Allo
         ++ words_of_working (option_map (λ working. working.now) working.entry)) }
 {
     let Some(working) = working else {
-        return write!(line, "-");
+        return line.push_str("-");
     };
     write!(line, "{} ", working.place)?;
     push_dotted(line, working.machine.remembered())?;

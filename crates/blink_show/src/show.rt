@@ -1,8 +1,9 @@
 //! A script's replay, written to be looked at.
 ghost use Rattle.std.specs.Prelude.{◌≡◌, ◌++◌, ◌↔◌, Err, IfErr, IfOk, OnOk, MatchOption, count_by, string_bytes};
 ghost use Rattle.blink_replay.specs.{WritesText, is_batch, IsPartsFault, TellsReplayFault, TellsWorkersFault};
+ghost use Rattle.blink_store.specs.{new_store};
 ghost use Rattle.blink_steps.specs.{IsFirstNoWorker};
-ghost use Rattle.blink_show.specs.Show.{AddsParts, IsLastBatch, IsSeedText, IsShowText, IsTextOf, LeavesShow};
+ghost use Rattle.blink_show.specs.Show.{AddsParts, IsLastBatch, IsSeedText, IsShowText, IsTextOf, LeavesShow, sizes_text};
 ghost use Rattle.blink_show.specs.AskedTurns.{AreOfWorkers, ShowsAsked};
 
 use crate::batch::show_batch;
@@ -13,7 +14,7 @@ use blink_index::Index;
 use blink_replay::{first_of_no_worker, new_index, run_parts, write_replay};
 use blink_settings::{ServeError, Settings};
 use blink_steps::StepError;
-use std::alloc::Global;
+use std::alloc::{AllocError, Global};
 use std::fmt::Write as _;
 use std::io::{Read, Write};
 
@@ -109,16 +110,34 @@ fn show_script<R: Read, W: Write>(
         (R.remaining reader.old) error (W.contents writer.old) (W.contents writer.new)) }
 {
     let script = read_script(alloc, reader)?;
+    let film = film_of(alloc, script.parts, asked)?;
+    write_replay(writer, template.head, &film.text, template.tail)
+}
+
+// A film of the script's parts, with the sizes before it.
+fn film_of(alloc: Global, parts: Vec<Part>, asked: Asked<'_>) -> Result<Film, ServeError>
+    requires { AreOfWorkers asked.settings.now.workers asked.turns }
+    ensures shown { IfOk result (λ film. AddsParts asked.entry.settings.now.workers
+        (ShowsAsked asked.entry.turns) (new_store asked.entry.settings.now.fan) parts.items
+        (sizes_text asked.entry.settings.now.workers asked.entry.settings.now.fan)
+        (string_bytes film.text)) }
+    ensures refused { IfErr result IsPartsFault }
+{
     let index = new_index(alloc, asked.settings)?;
     let mut film = Film::new(alloc);
-    write!(
-        film.text,
-        "workers {}\nfan {}\n",
-        asked.settings.workers(),
-        asked.settings.fan()
-    )?;
-    show_parts(&mut film, index, script.parts, asked)?;
-    write_replay(writer, template.head, &film.text, template.tail)
+    push_sizes(&mut film.text, asked.settings)?;
+    show_parts(&mut film, index, parts, asked)?;
+    Ok(film)
+}
+
+// Adds the lines of the sizes.
+fn push_sizes(text: &mut String, settings: &Settings) -> Result<(), AllocError>
+    ensures { OnOk result (string_bytes text.new
+        ≡ string_bytes text.old ++ sizes_text settings.now.workers settings.now.fan) }
+{
+    let workers = settings.workers();
+    let fan = settings.fan();
+    write!(text, "workers {workers}\nfan {fan}\n")
 }
 
 // Adds the text of the last batch, over the tree that the parts before it leave.

@@ -1,7 +1,8 @@
 //! Turns one after another, with a frame for each.
-ghost use Rattle.std.specs.Prelude.{◌≡◌, ◌<◌, All, IfErr, OnOk, string_bytes};
+ghost use Rattle.std.specs.Prelude.{◌≡◌, ◌++◌, ◌<◌, All, IfErr, OnOk, string_bytes};
 ghost use Rattle.blink_replay.specs.{IsRefusedMemory};
 ghost use Rattle.blink_steps.specs.{HasEnded};
+ghost use Rattle.blink_show.specs.Frames.{first_frame};
 ghost use Rattle.blink_show.specs.Keeping.{Keeps};
 ghost use Rattle.blink_show.specs.Turns.{AddsDrawn, AddsFinish, AddsSchedule};
 ghost use Rattle.blink_show.specs.AskedTurns.{AddsAsked, AreOfWorkers};
@@ -14,14 +15,14 @@ use rand_core::SeedableRng;
 use rand_xoshiro::SplitMix64;
 
 /// What a script is shown by: its settings, and the turns of its last batch before the finish.
-#[derive(Clone, Copy, Debug)]
+#[derive(Clone, Copy)]
 pub(crate) struct Asked<'a> {
     pub settings: &'a Settings,
     pub turns: Turns<'a>,
 }
 
 /// The turns before the finish.
-#[derive(Clone, Copy, Debug)]
+#[derive(Clone, Copy)]
 pub(crate) enum Turns<'a> {
     /// The turns of a schedule: the worker of each.
     Schedule(&'a [u8]),
@@ -29,7 +30,8 @@ pub(crate) enum Turns<'a> {
     Seed(u64),
 }
 
-/// Takes the turns asked for, and adds a frame for each. The owners are the workers of the batch's operations.
+/// Adds the frame of the first tree state, takes the turns asked for, and adds a frame for each. The owners are the workers
+/// of the batch's operations.
 pub(crate) fn show_turns(
     film: &mut Film,
     world: &mut World,
@@ -38,12 +40,12 @@ pub(crate) fn show_turns(
 ) -> Result<(), ServeError>
     requires workers { AreOfWorkers world.old.run.assignment.workers turns }
     requires owners { owners.now ≡ world.old.run.assignment.lanes }
-    requires kept { Keeps film.old world.old.run }
     ensures text { OnOk result (AddsAsked turns.entry world.old world.new
-        (string_bytes film.old.text) (string_bytes film.new.text)) }
+        (string_bytes film.old.text ++ first_frame world.old.run) (string_bytes film.new.text)) }
     ensures kept { OnOk result (Keeps film.new world.new.run) }
     ensures refused { IfErr result IsRefusedMemory }
 {
+    film.first(world)?;
     match turns {
         Turns::Schedule(schedule) => show_schedule(film, world, schedule),
         Turns::Seed(seed) => show_drawn(film, world, seed, owners),

@@ -63,7 +63,7 @@ pub(crate) fn push_dotted(text: &mut String, pages: &[u32]) -> Result<(), AllocE
     ensures { OnOk result (string_bytes text.new ≡ string_bytes text.old ++ dotted pages.now) }
 {
     let Some((first, others)) = pages.split_first() else {
-        return write!(text, "-");
+        return text.push_str("-");
     };
     write!(text, "{first}")?;
     for page in others {

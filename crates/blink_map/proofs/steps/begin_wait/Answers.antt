@@ -1,4 +1,4 @@
-use Rattle.std.proofs.Common.{◌≤◌, arith}
+use Rattle.std.proofs.Common.{◌≤◌, arith, rules}
 use Rattle.blink_live.specs.{plan_of}
 use Rattle.blink_live.proofs.Offered.{begins_wait_at}
 use Rattle.blink_map.proofs.steps.begin_wait.Goals as goal
@@ -11,3 +11,6 @@ load-requires c =
       omega (arith, live.width, live.some_number),
       begins_wait_at (plan_of live.table.shared.key) live.table.shared.table_id.slots c.args.seat.now.id c.args.seat.now.me c.requires.seat.role common c.requires.none_waits,
     )
+
+pub returns-clause-waits : goal.returns-clause-waits
+returns-clause-waits c = search rules

@@ -1,22 +1,19 @@
-use Rattle.std.proofs.Common.{◌≡◌, ◌++◌, ◌∙◌, List, ℕ, Some, refl, string_bytes}
+use Rattle.std.proofs.Common.{◌≡◌, ◌++◌, List, ℕ, Some, string_bytes}
 use Rattle.std.proofs.lemmas.Result.{IfErr-weaker, on_ok_weaker}
 use Rattle.blink_batch.specs.{records_of}
 use Rattle.blink_replay.proofs.Offered.{writes_prefix, writes_whole}
-use Rattle.blink_show.specs.Show.{IsTextOf, LeavesShow, sizes_text}
+use Rattle.blink_show.specs.Show.{IsTextOf, LeavesShow}
 use Rattle.blink_show.specs.AskedTurns.{ShowsAsked}
 use Rattle.blink_show.proofs.TextOfReplay.{is_show_text}
 use Rattle.blink_show.proofs.show.show_script.Given.{Over}
 use Rattle.blink_show.proofs.show.show_script.Goals as goal
 
 -- what is to be written is the text between head and tail
-is_text : (g : Over) (c : goal.After-drop-film-3 g) (read : List ℕ) → g.R.Read.remaining c.args.reader.now ≡ Some read
+is_text : (g : Over) (c : goal.After-drop-film-2 g) (read : List ℕ) → g.R.Read.remaining c.args.reader.now ≡ Some read
     → IsTextOf c.args.template.head.now c.args.template.tail.now c.args.asked.settings.now.workers c.args.asked.settings.now.fan (ShowsAsked c.args.asked.turns) (records_of read) (c.args.template.head.now ++ (c.deref.result.now ++ c.args.template.tail.now))
 is_text g c =
-    let sizes : string_bytes c.write.new.self ≡ sizes_text c.args.asked.settings.now.workers c.args.asked.settings.now.fan
-    = c.in_ok-write.ensures.bytes ∙ rw (c.new-film.ensures, c.workers.ensures.workers, c.fan.ensures.fan) refl in
     is_show_text c.args.template.head.now c.args.template.tail.now c.args.asked.settings.now.workers c.args.asked.settings.now.fan (ShowsAsked c.args.asked.turns) (g.R.Read.remaining c.args.reader.now) c.in_ok-script.script.parts.items
-    c.in_ok-index.index (string_bytes c.write.new.self) (string_bytes c.show_parts.new.film.text) c.deref.result.now
-    c.in_ok-script.ensures.script c.in_ok-index.ensures.index sizes c.in_ok-show_parts.ensures.shown c.deref.ensures
+    (string_bytes c.in_ok-film.film.text) c.deref.result.now c.in_ok-script.ensures.script c.in_ok-film.ensures.shown c.deref.ensures
 
 -- all of it is written
 pub returns-clause-shown : goal.returns-clause-shown

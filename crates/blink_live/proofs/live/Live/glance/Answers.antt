@@ -1,4 +1,4 @@
-use Rattle.std.proofs.Common.{sym, ap, ◌∙◌}
+use Rattle.std.proofs.Common.{sym, ap, ◌∙◌, rules}
 use Rattle.blink_live.specs.declared.view.View.{View}
 use Rattle.blink_live.proofs.found.FindsOfSeveral.{pass_can_find, takes_none}
 use Rattle.blink_live.proofs.live.Live.glance.Goals as goal
@@ -26,3 +26,9 @@ invariant_of-pass c =
       idle = c.search.ensures.idle;
       no_slot = c.search.ensures.same_slots ∙ pass.no_slot;
     }
+
+pub returns-in-Found-clause-state : goal.returns-in-Found-clause-state
+returns-in-Found-clause-state c = search rules
+
+pub returns-in_default : goal.returns-in_default
+returns-in_default c = search rules

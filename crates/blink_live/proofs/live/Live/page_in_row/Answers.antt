@@ -1,4 +1,4 @@
-use Rattle.std.proofs.Common.{◌≡◌, ℕ, ◌+◌, ◌*◌, ◌<◌, ◌≤◌, length, take, sym, ap, ◌∙◌, subst, arith}
+use Rattle.std.proofs.Common.{◌≡◌, ℕ, ◌+◌, ◌*◌, ◌<◌, ◌≤◌, length, take, sym, ap, ◌∙◌, subst, arith, rules}
 use Rattle.std.proofs.lemmas.List.{take_all}
 use Rattle.blink_page.specs.{PlainPage}
 use Rattle.blink_page.specs.declared.limits.TheConstants.{MAX_FAN}
@@ -73,3 +73,6 @@ returns-clause-page c page is =
     c.loop-older.invariant.applied page is
     ∙ (ap (λ (n : ℕ). page_with is.base (take n is.version.records)) all
     ∙ (ap (page_with is.base) (take_all (length is.version.records) is.version.records (omega arith)) ∙ sym is.version.is))
+
+pub loop-older-init : goal.loop-older-init
+loop-older-init c = search rules

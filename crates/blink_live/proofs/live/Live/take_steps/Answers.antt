@@ -1,4 +1,4 @@
-use Rattle.std.proofs.Common.{refl, sym, ◌∙◌, subst, true≢false}
+use Rattle.std.proofs.Common.{refl, sym, ◌∙◌, subst, true≢false, rules}
 use Rattle.blink_live.specs.Pendings.{IsWaiting}
 use Rattle.blink_live.proofs.changed.LatchesAreLeft.{past_waiting, waits_at}
 use Rattle.blink_live.proofs.live.Live.take_steps.Goals as goal
@@ -41,3 +41,6 @@ loop-preserved c =
       under_way = λ op first is. c.leave.ensures.under_way op first (c.turn.ensures.under_way op first (c.loop.invariant.under_way op first is));
       waits = waits_at c.leave.new.machine c.leave.new.machine.state refl now.updating.past_descent c.leave.ensures.no_latch (λ ends. true≢false (sym (c.ended.ensures.1 ends) ∙ c.if-ended.false));
     }
+
+pub returns-then-left-eq0-clause-ended : goal.returns-then-left-eq0-clause-ended
+returns-then-left-eq0-clause-ended c = search rules

@@ -1,4 +1,4 @@
-use Rattle.std.proofs.Common.{ℕ, None, sym, subst}
+use Rattle.std.proofs.Common.{ℕ, None, sym, subst, arith}
 use Rattle.atomic_table.specs.declared.Seat.{Seat}
 use Rattle.blink_live.specs.declared.room.Room.{Room}
 use Rattle.blink_live.specs.declared.view.View.{View}
@@ -45,3 +45,6 @@ returns-clause-given_up c first is =
           let here = subst (λ (t : Seat ℕ View × Room). IsUnderWay live c.args.op first t.0 (wanting live.fan c.args.op w.change_leaf.new.descent) t.1) (λ i. (sym w.seat-is i, sym w.room-is i)) turned in
           given_up_where_it_waits w.change_leaf.new.descent here c.give_up.new.seat c.give_up.ensures.same c.give_up.ensures.idle
     ]
+
+pub returns-in-Whole-clause-given_up : goal.returns-in-Whole-clause-given_up
+returns-in-Whole-clause-given_up c = grind arith

@@ -1,4 +1,4 @@
-use Rattle.std.proofs.Common.{◌≡◌, ◌+◌, ◌*◌, ◌≤◌, length, sym, ap, ◌∙◌, subst, arith}
+use Rattle.std.proofs.Common.{◌≡◌, ◌+◌, ◌*◌, ◌≤◌, length, sym, ap, ◌∙◌, subst, arith, rules}
 use Rattle.blink_batch.specs.{key_of}
 use Rattle.blink_page.specs.{PlainPage}
 use Rattle.blink_page.specs.declared.limits.TheConstants.{MAX_FAN}
@@ -20,3 +20,6 @@ publish-requires-clause-staged c =
     let few : length page.entries ≤ MAX_FAN = subst (λ (p : PlainPage). length p.entries ≤ MAX_FAN) (c.page.view_is ∙ c.page_in_place-page.ensures) c.page.invariant.at_most_fan in
     subst (λ (x : SeatState). BeginWith x.0.call.staged (page_words page)) (sym c.stage_row.ensures.staged)
     (words_of_row c.page_row-words.result (page_words page) (6 + 2 * c.len.result) (subst (λ (p : PlainPage). IsPageRow p c.page_row-words.result) c.page_in_place-page.ensures c.page_row-words.ensures) (omega (arith, length-page_words page, many)) (omega (arith, many, few)))
+
+pub returns-clause-published : goal.returns-clause-published
+returns-clause-published c = search rules

@@ -27,3 +27,6 @@ returns-then-changes_left-eq0-clause-spent c =
 
 pub returns-clause-own_key : goal.returns-clause-own_key
 returns-clause-own_key c = subst (Contains (keys_of c.args.self.now)) c.key.ensures (c.has.ensures.0 c.if-not-has.false)
+
+pub returns-clause-not_yours : goal.returns-clause-not_yours
+returns-clause-not_yours c = search rules

@@ -1,4 +1,4 @@
-use Rattle.std.proofs.Common.{◌≡◌, ℕ, ◌<◌, List, sym, ap, ◌∙◌, subst}
+use Rattle.std.proofs.Common.{◌≡◌, ℕ, ◌<◌, List, sym, ap, ◌∙◌, subst, rules}
 use Rattle.std.specs.Prelude.{slice_index}
 use Rattle.std.specs.Mem.Slots.{slots_items}
 use Rattle.blink_batch.specs.declared.Entry.{Entry}
@@ -37,3 +37,6 @@ returns-in-Ok-clause-entries c opening changes is =
     let idle = c.are_idle.ensures c.if-not-are_idle.false in
     kept c.args.self.now opening changes is idle c.from_rest.result
     (subst (λ (store : PlainStore). IsMapOf store is.table.now) (sym c.from_rest.ensures) (c.in-Ok.ensures.entries is.table.now (tree c.args.self.now opening changes is idle)))
+
+pub returns-in-Ok-clause-numbered : goal.returns-in-Ok-clause-numbered
+returns-in-Ok-clause-numbered c = search rules
