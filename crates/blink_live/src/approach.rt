@@ -19,7 +19,6 @@ use crate::descent::Descent;
 use crate::live::Live;
 use crate::room::Room;
 use crate::view::View;
-use arrayvec::ArrayVec;
 use atomic_table::Seat;
 use blink_batch::Op;
 use blink_machine::Resting;
@@ -42,12 +41,19 @@ impl Live {
         ensures under_way { IsUnderWay self.now op seat.old seat.new result room.now }
         ensures waits { IsWaiting result }
     {
-        let descent = self.set_off(seat, room, op);
+        let mut descent = Descent::new();
+        self.set_off(seat, room, op, &mut descent);
         self.machine_at(op, &descent).rest()
     }
 
-    // Takes a new operation to the leaf of its key.
-    pub(crate) fn set_off(&self, seat: &mut Seat<u8, View>, _room: &Room, op: Op) -> Descent
+    // Takes a new operation to the leaf of its key. The descent is the caller's, so that it isn't copied.
+    pub(crate) fn set_off(
+        &self,
+        seat: &mut Seat<u8, View>,
+        _room: &Room,
+        op: Op,
+        descent: &mut Descent,
+    )
         requires seat { IsPassSeat self.now seat.old.table_id seat.old.me }
         requires idle { seat.old.me.0.operation ≡ None }
         requires fits { FitsWords op }
@@ -57,13 +63,14 @@ impl Live {
         requires shelved { IsShelved _room.now.shelf seat.old.me.0 }
         requires enough { HasRowsFor op seat.old.me.0.rows _room.now.shelf }
         requires may { MayChange seat.old.me.0 (key_of op) }
-        ensures { IsUnderWay self.now op seat.old seat.new (wanting self.now.fan op result) _room.now }
+        ensures { IsUnderWay self.now op seat.old seat.new (wanting self.now.fan op descent.new)
+            _room.now }
     {
-        self.come_to_change(seat, op)
+        self.come_to_change(seat, op, descent);
     }
 
-    // Brings a new operation that changes the tree to the leaf of its key. What a machine would remember is in the result.
-    fn come_to_change(&self, seat: &mut Seat<u8, View>, op: Op) -> Descent
+    // Brings a new operation that changes the tree to the leaf of its key. What a machine would remember is in the descent.
+    fn come_to_change(&self, seat: &mut Seat<u8, View>, op: Op, descent: &mut Descent)
         requires seat { IsPassSeat self.now seat.old.table_id seat.old.me }
         requires idle { seat.old.me.0.operation ≡ None }
         requires fits { FitsWords op }
@@ -73,12 +80,13 @@ impl Live {
         ensures rows { AreRowsIn self.now.counts seat.old.me.0.rows }
         ensures pages { AreNumbersIn self.now.counts seat.old.me.0.pages }
         ensures read { HasRead op (for_call seat.old.me.0 op, seat.old.me.1) seat.new.me
-            (wanting self.now.fan op result) }
+            (wanting self.now.fan op descent.new) }
         ensures at_leaf { IsAtLeaf op (known_of seat.new.me.0 (key_of op))
-            (wanting self.now.fan op result) }
+            (wanting self.now.fan op descent.new) }
     {
         let (mut number, mut level) = self.root(seat, op);
-        let mut above = ArrayVec::new();
+        let Descent { leaf, above } = descent;
+        above.clear();
         loop {
             match self.way_of_change(seat, op.key(), number, level) {
                 Way::Right(next) => number = next,
@@ -88,10 +96,8 @@ impl Live {
                     level -= 1;
                 }
                 Way::Here => {
-                    return Descent {
-                        leaf: number,
-                        above,
-                    };
+                    *leaf = number;
+                    return;
                 }
             }
         }

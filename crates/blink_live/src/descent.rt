@@ -17,6 +17,16 @@ pub(crate) struct Descent {
     ghost few: { length above.items + 1 < LEVELS },
 }
 
+impl Descent {
+    // A descent that goes nowhere yet.
+    pub(crate) fn new() -> Descent {
+        Descent {
+            leaf: 0,
+            above: ArrayVec::new(),
+        }
+    }
+}
+
 /// What an operation knows of the leaf that it has latched, where its key belongs.
 #[derive(Clone, Copy)]
 pub(crate) struct Spot {

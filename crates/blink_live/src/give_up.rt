@@ -45,8 +45,9 @@ impl Live {
             (λ answer. HasCome self.now op seat.old seat.new room.new (Changed.Ended answer)) }
         ensures given_up { IfNone result (HasGivenUp self.now op seat.old seat.new room.new) }
     {
-        let descent = self.set_off(seat, room, op);
-        self.try_change_from(seat, room, op, descent, tries)
+        let mut descent = Descent::new();
+        self.set_off(seat, room, op, &mut descent);
+        self.try_change_from(seat, room, op, &mut descent, tries)
     }
 
     // Changes the leaf of an operation that wants its latch, or gives the operation up.
@@ -55,23 +56,22 @@ impl Live {
         seat: &mut Seat<u8, View>,
         room: &mut Room,
         op: Op,
-        descent: Descent,
+        descent: &mut Descent,
         tries: u32,
     ) -> Option<Answer>
         requires wants { (first : Seat ℕ View)
-            × IsUnderWay self.now op first seat.old (wanting self.now.fan op descent) room.old }
+            × IsUnderWay self.now op first seat.old (wanting self.now.fan op descent.old) room.old }
         ensures came { IfSome result (λ answer. (first : Seat ℕ View)
-            → IsUnderWay self.now op first seat.old (wanting self.now.fan op descent) room.old
+            → IsUnderWay self.now op first seat.old (wanting self.now.fan op descent.old) room.old
             → HasCome self.now op first seat.new room.new (Changed.Ended answer)) }
         ensures given_up { IfNone result ((first : Seat ℕ View)
-            → IsUnderWay self.now op first seat.old (wanting self.now.fan op descent) room.old
+            → IsUnderWay self.now op first seat.old (wanting self.now.fan op descent.old) room.old
             → HasGivenUp self.now op first seat.new room.new) }
     {
-        let mut descent = descent;
         let mut left = tries;
         // The range ends for the proof alone, which knows no bound of an operation's steps.
         for _ in 0..u64::MAX {
-            match self.change_leaf(seat, room, op, &mut descent) {
+            match self.change_leaf(seat, room, op, descent) {
                 Turned::Ended(answer) => return Some(answer),
                 Turned::Moved => {}
                 Turned::Whole(_word) => {

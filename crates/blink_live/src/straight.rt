@@ -58,8 +58,9 @@ impl Live {
         requires may { MayChange seat.old.me.0 (key_of op) }
         ensures came { HasCome self.now op seat.old seat.new room.new result }
     {
-        let descent = self.set_off(seat, room, op);
-        self.change_from(seat, room, op, descent, tries)
+        let mut descent = Descent::new();
+        self.set_off(seat, room, op, &mut descent);
+        self.change_from(seat, room, op, &mut descent, tries)
     }
 
     /// Goes on with an operation that rests, until it has ended, or has to wait again. It waits for nobody, and takes as many steps in
@@ -79,7 +80,7 @@ impl Live {
             → HasCome self.now op first seat.new room.new result }
     {
         match self.descent_of(resting) {
-            Some(descent) => self.change_from(seat, room, resting.op(), descent, tries),
+            Some(mut descent) => { self.change_from(seat, room, resting.op(), &mut descent, tries) }
             None => self.step_on(seat, room, resting, tries),
         }
     }
@@ -106,35 +107,34 @@ impl Live {
         seat: &mut Seat<u8, View>,
         room: &mut Room,
         op: Op,
-        descent: Descent,
+        descent: &mut Descent,
         tries: u32,
     ) -> Changed
         requires wants { (first : Seat ℕ View)
-            × IsUnderWay self.now op first seat.old (wanting self.now.fan op descent) room.old }
+            × IsUnderWay self.now op first seat.old (wanting self.now.fan op descent.old) room.old }
         ensures { (first : Seat ℕ View)
-            → IsUnderWay self.now op first seat.old (wanting self.now.fan op descent) room.old
+            → IsUnderWay self.now op first seat.old (wanting self.now.fan op descent.old) room.old
             → HasCome self.now op first seat.new room.new result }
     {
-        let mut descent = descent;
         let mut left = tries;
         // The range ends for the proof alone, which knows no bound of an operation's steps.
         for _ in 0..u64::MAX {
-            match self.change_leaf(seat, room, op, &mut descent) {
+            match self.change_leaf(seat, room, op, descent) {
                 Turned::Ended(answer) => return Changed::Ended(answer),
                 Turned::Moved => {}
                 Turned::Whole(word) => {
-                    return self.go_on_whole(seat, room, op, &descent, word, left);
+                    return self.go_on_whole(seat, room, op, descent, word, left);
                 }
                 Turned::Waits => {
                     left = left.saturating_sub(1);
                     if left == 0 {
-                        return self.rest_at(op, &descent);
+                        return self.rest_at(op, descent);
                     }
                     hint::spin_loop();
                 }
             }
         }
-        self.rest_at(op, &descent)
+        self.rest_at(op, descent)
     }
 
     // Goes on with the machine of an operation that rests.

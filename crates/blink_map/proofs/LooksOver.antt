@@ -44,7 +44,7 @@ module _ (old : Member) (mark : ℕ) (first found : SeatState) (marked : first �
   }
 
   -- and the member is as it was, except that it may have seen more
-  pub has_looked : (new : Member) → new.seat.me ≡ (is_busy found.0 0, found.1) → new.seat.table_id ≡ old.seat.table_id → new.rows ≡ old.rows → new.pages ≡ old.pages → new.shelf ≡ old.shelf → HasLooked old new
+  pub has_looked : (new : Member) → new.seat.me ≡ (is_busy found.0 0, found.1) → new.seat.table_id ≡ old.seat.table_id → new.rows ≡ old.rows → new.pages ≡ old.pages → new.room.shelf ≡ old.room.shelf → HasLooked old new
   has_looked new now same_table same_rows same_pages same_shelf = record {
     saw = subst (λ (x : List Change × List Change). IsPrefix x.0 x.1) (λ i. (ap (λ (x : SeatState). x.0.seen) marked i, sym (ap (λ (x : SeatState). x.0.seen) now) i)) searched.saw;
     made = ap (λ (x : SeatState). x.0.share.changes) now ∙ ap (λ (s : Share). s.changes) (searched.same_share ∙ ap (λ (x : SeatState). x.0.share) marked);

@@ -10,9 +10,9 @@ use Rattle.blink_map.specs.declared.member.Member.{Member}
 use Rattle.blink_map.specs.Sessions.{HasRoom, HasRoomInAll}
 
 -- an operation that may need no more than the room can begin
-pub has_rows_for : (op : Op) (member : Member) (v : View) → v.rows ≡ member.rows → HasRoom op member → HasRowsFor op v.rows member.shelf
+pub has_rows_for : (op : Op) (member : Member) (v : View) → v.rows ≡ member.rows → HasRoom op member → HasRowsFor op v.rows member.room.shelf
 has_rows_for op member v same has = record {
-  enough = subst (λ (s : Span). rows_of op ≤ rows_taken op s + free_in member.shelf) (sym same) (enough_taken op member.rows (free_in member.shelf) has.enough_rows);
+  enough = subst (λ (s : Span). rows_of op ≤ rows_taken op s + free_in member.room.shelf) (sym same) (enough_taken op member.rows (free_in member.room.shelf) has.enough_rows);
   space = has.space;
 }
 
@@ -28,7 +28,7 @@ pub short_of_more : (key pointer : ℕ) (member : Member) → ¬ HasRoom (Replac
 short_of_more key pointer member short has = short (record {
   enough_rows = let enough = has.enough_rows in omega (arith, enough);
   enough_pages = omega arith;
-  space = less_space member.shelf (rows_of (Insert key pointer)) (rows_of (Replace key pointer)) (omega arith) has.space;
+  space = less_space member.room.shelf (rows_of (Insert key pointer)) (rows_of (Replace key pointer)) (omega arith) has.space;
 })
 
 pub short_of_more_in_all : (key pointer : ℕ) (member : Member) → ¬ HasRoomInAll (Replace key pointer) member → ¬ HasRoomInAll (Insert key pointer) member

@@ -36,10 +36,10 @@ HasTurnedOut live op old new None = HasOnlySeen old new
 
 -- the rows that a member has in all, those that are on their way back too; and those that it may write now
 abbrev pub rows_in_all : Member → ℕ
-rows_in_all member = length_of member.rows + rows_on member.shelf
+rows_in_all member = length_of member.rows + rows_on member.room.shelf
 
 abbrev pub rows_at_hand : Member → ℕ
-rows_at_hand member = length_of member.rows + free_in member.shelf
+rows_at_hand member = length_of member.rows + free_in member.room.shelf
 
 -- the member has seen and made what it had, and no fewer rows and page numbers. It has more of them only of a kind of which it had
 -- fewer than these at hand

@@ -13,7 +13,7 @@ pub record HasLooked (old new : Member) : Type 0 where
   pub made : made_by_member new ≡ made_by_member old
   pub rows : new.rows ≡ old.rows
   pub pages : new.pages ≡ old.pages
-  pub shelf : new.shelf ≡ old.shelf
+  pub shelf : new.room.shelf ≡ old.room.shelf
   pub same_member : IsSameMember old new
 
 -- these entries are a report of the keys from `lo` up to `stop`, read between what the member had seen before and what it has seen now

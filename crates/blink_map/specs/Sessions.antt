@@ -65,13 +65,13 @@ made_by session = made_by_member session.member
 -- the member has the rows that the operation may need, those of its span and the free ones of its shelf together, and the page
 -- numbers; and its shelf has room for as many rows that are taken out
 pub record HasRoom (op : Op) (member : Member) : Type 0 where
-  pub enough_rows : rows_of op ≤ length_of member.rows + free_in member.shelf
+  pub enough_rows : rows_of op ≤ length_of member.rows + free_in member.room.shelf
   pub enough_pages : pages_of op ≤ length_of member.pages
-  pub space : HasSpaceFor member.shelf (rows_of op)
+  pub space : HasSpaceFor member.room.shelf (rows_of op)
 
 -- it has them once all rows that it has taken out have come back
 pub record HasRoomInAll (op : Op) (member : Member) : Type 0 where
-  pub enough_rows : rows_of op ≤ length_of member.rows + rows_on member.shelf
+  pub enough_rows : rows_of op ≤ length_of member.rows + rows_on member.room.shelf
   pub enough_pages : pages_of op ≤ length_of member.pages
 
 -- the session lacks them even then
@@ -92,7 +92,7 @@ pub record IsSameBesideSeen (old new : Session) : Type 0 where
   pub made : made_by new ≡ made_by old
   pub rows : new.member.rows ≡ old.member.rows
   pub pages : new.member.pages ≡ old.member.pages
-  pub shelf : new.member.shelf ≡ old.member.shelf
+  pub shelf : new.member.room.shelf ≡ old.member.room.shelf
   pub same_member : IsSameMember old.member new.member
 
 -- the session is as it was
@@ -101,7 +101,7 @@ pub record IsSameSession (old new : Session) : Type 0 where
   pub made : made_by new ≡ made_by old
   pub rows : new.member.rows ≡ old.member.rows
   pub pages : new.member.pages ≡ old.member.pages
-  pub shelf : new.member.shelf ≡ old.member.shelf
+  pub shelf : new.member.room.shelf ≡ old.member.room.shelf
   pub same_member : IsSameMember old.member new.member
 
 -- what an operation of a member has answered: there is a list of changes that goes on from all that the member had seen. The answer

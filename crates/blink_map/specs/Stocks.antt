@@ -19,9 +19,9 @@ waiting_in (Some shelf) = shelf.waiting.len
 -- the numbers of its rows and page numbers, as far as 64 bits tell
 abbrev pub stock_of : Session → Stock
 stock_of session = record {
-  pages = min (numbers_in session.member.pages (spare_on session.member.shelf)) (2 ^ 64 - 1);
+  pages = min (numbers_in session.member.pages (spare_on session.member.room.shelf)) (2 ^ 64 - 1);
   unwritten = length_of session.member.rows;
-  free = free_in session.member.shelf;
-  taken_out = taken_out_in session.member.shelf;
-  waiting = waiting_in session.member.shelf;
+  free = free_in session.member.room.shelf;
+  taken_out = taken_out_in session.member.room.shelf;
+  waiting = waiting_in session.member.room.shelf;
 }

@@ -9,5 +9,5 @@ pub record IsStill (old new : Member) : Type 0 where
   pub made : made_by_member new ≡ made_by_member old
   pub rows : new.rows ≡ old.rows
   pub pages : new.pages ≡ old.pages
-  pub shelf : new.shelf ≡ old.shelf
+  pub shelf : new.room.shelf ≡ old.room.shelf
   pub same_member : IsSameMember old new

@@ -13,7 +13,7 @@ ghost use Rattle.blink_map.specs.Pendings.{GoesOn, HasBegun, IsPendingOf, op_of,
 ghost use Rattle.blink_map.specs.Places.{IsMemberOf};
 ghost use Rattle.blink_map.specs.Sessions.{HasRoom, IsAnswered, IsSameBesideRoom, IsSessionOf, LacksRoom};
 
-use crate::change::{come_back, room_of};
+use crate::change::{aim, come_back};
 use crate::error::Full;
 use crate::map::{Map, Pending, Session};
 use crate::member::{Member, REST, UnderWay, next_mark};
@@ -96,11 +96,11 @@ impl Member {
             rows,
             pages,
             place,
-            shelf,
+            mut room,
             mut mark,
         } = self;
         mark_place(live, &mut seat, place, next_mark(&mut mark));
-        let room = room_of(op, &rows, &pages, shelf);
+        aim(&mut room, op, &rows, &pages);
         let machine = live.set_out(&mut seat, &room, op);
         mark_place(live, &mut seat, place, REST);
         UnderWay {
@@ -180,7 +180,7 @@ impl UnderWay {
                 stop: pages.stop,
             },
             place,
-            shelf: room.shelf,
+            room,
             mark,
         }
     }

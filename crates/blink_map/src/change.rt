@@ -175,10 +175,10 @@ impl Member {
             rows: _,
             pages: _,
             place: _,
-            shelf,
+            room,
             mark: _,
         } = self;
-        if let Some(shelf) = shelf.as_mut() {
+        if let Some(shelf) = room.shelf.as_mut() {
             recycle(live, seat, shelf, least);
         }
     }
@@ -189,9 +189,9 @@ impl Member {
         requires its_own { IsMemberOf live.now self.old }
         ensures { HasDrawn least 0 self.old self.new }
     {
-        let has = self.rows.len().saturating_add(free_in(&self.shelf));
-        let quota = quota_of(&self.shelf).saturating_sub(self.rows.len());
-        let most = lacking_on(&self.shelf, quota).min(ROW_CHUNK);
+        let has = self.rows.len().saturating_add(free_in(&self.room.shelf));
+        let quota = quota_of(&self.room.shelf).saturating_sub(self.rows.len());
+        let most = lacking_on(&self.room.shelf, quota).min(ROW_CHUNK);
         if has >= least || most == 0 {
             return;
         }
@@ -200,16 +200,16 @@ impl Member {
             rows,
             pages: _,
             place: _,
-            shelf,
+            room,
             mark: _,
         } = self;
-        if let Some(shelf) = shelf.as_mut() {
+        if let Some(shelf) = room.shelf.as_mut() {
             free_rows(live, seat, rows, shelf);
         }
         if rows.next < rows.stop {
             return;
         }
-        let need = lacking_on(shelf, least).max(1).min(most);
+        let need = lacking_on(&room.shelf, least).max(1).min(most);
         if let Some(drawn) = draw_rows(live, seat, need, most) {
             *rows = drawn;
         }
@@ -220,21 +220,21 @@ impl Member {
         requires its_own { IsMemberOf live.now self.old }
         requires few { least ≤ PAGE_CHUNK }
         ensures drawn { HasDrawn 0 least self.old self.new }
-        ensures none_lost { KeepsNumbers self.old.pages (spare_on self.old.shelf)
-            self.new.pages (spare_on self.new.shelf) }
+        ensures none_lost { KeepsNumbers self.old.pages (spare_on self.old.room.shelf)
+            self.new.pages (spare_on self.new.room.shelf) }
     {
         let Member {
             seat,
             rows: _,
             pages,
             place: _,
-            shelf,
+            room,
             mark: _,
         } = self;
         if pages.len() >= least {
             return;
         }
-        if let Some(shelf) = shelf.as_mut() {
+        if let Some(shelf) = room.shelf.as_mut() {
             let drawn = draw_pages(live, seat, *pages, shelf.spare, least, PAGE_CHUNK);
             if let Some((drawn, left)) = drawn {
                 *pages = drawn;
@@ -248,9 +248,9 @@ impl Member {
         ensures { IsTrue result ↔ HasRoom op self.now }
     {
         let (rows, pages) = needed_by(op);
-        rows.saturating_sub(self.rows.len()) <= free_in(&self.shelf)
+        rows.saturating_sub(self.rows.len()) <= free_in(&self.room.shelf)
             && pages <= self.pages.len()
-            && has_space(&self.shelf, rows)
+            && has_space(&self.room.shelf, rows)
     }
 
     // Whether it will have it once all its rows have come back.
@@ -258,7 +258,7 @@ impl Member {
         ensures { IsTrue result ↔ HasRoomInAll op self.now }
     {
         let (rows, pages) = needed_by(op);
-        lacking_on(&self.shelf, rows) <= self.rows.len() && pages <= self.pages.len()
+        lacking_on(&self.room.shelf, rows) <= self.rows.len() && pages <= self.pages.len()
     }
 
     // Runs an operation that changes the tree. While it does, the member's place is marked. What it hasn't used of its rows and
@@ -275,23 +275,22 @@ impl Member {
             rows,
             pages,
             place,
-            shelf,
+            room,
             mark,
         } = self;
         mark_place(live, seat, *place, next_mark(mark));
-        let mut room = room_of(op, rows, pages, shelf.take());
-        let changed = live.change_by(seat, &mut room, op, SPINS);
+        aim(room, op, rows, pages);
+        let changed = live.change_by(seat, room, op, SPINS);
         let running = Running {
             seat,
             live,
             place: *place,
             mark,
         };
-        let answer = running.end_of(rt, changed, &mut room);
+        let answer = running.end_of(rt, changed, room);
         come_back(live, seat, *place);
         rows.next = room.rows.next;
         pages.next = room.pages.next;
-        *shelf = room.shelf;
         answer
     }
 }
@@ -352,30 +351,40 @@ fn needed_by(op: Op) -> (u64, u64)
     }
 }
 
-// The first of these rows and page numbers, for an operation, with the shelf whose free rows it writes first.
-pub(crate) fn room_of(op: Op, rows: &Span, pages: &Span, shelf: Option<Shelf>) -> Room
+// The room of a member with this shelf, of which no operation has begun yet.
+pub(crate) fn room_with(shelf: Shelf) -> Room
+    ensures { result.shelf ≡ Some shelf }
+{
+    Room {
+        rows: Span { next: 1, stop: 1 },
+        pages: Span { next: 1, stop: 1 },
+        latch_number: LATCH,
+        shelf: Some(shelf),
+    }
+}
+
+// Aims the room at an operation, which may use the first of these rows and page numbers, and writes the free rows of the shelf
+// first. The shelf stays where it is: an exchange waits for all stores before it, and to move a shelf to and fro takes some forty.
+pub(crate) fn aim(room: &mut Room, op: Op, rows: &Span, pages: &Span)
     requires in_order { (rows.now.next ≤ rows.now.stop) × (pages.now.next ≤ pages.now.stop) }
     requires pages { pages_of op ≤ length_of pages.now }
-    ensures rows { result.rows ≡ span rows.now.next (rows.now.next + rows_taken op rows.now) }
-    ensures pages { result.pages ≡ span pages.now.next (pages.now.next + pages_of op) }
-    ensures latch { result.latch_number ≡ 1 }
-    ensures shelf { result.shelf ≡ shelf }
+    ensures rows { room.new.rows ≡ span rows.now.next (rows.now.next + rows_taken op rows.now) }
+    ensures pages { room.new.pages ≡ span pages.now.next (pages.now.next + pages_of op) }
+    ensures latch { room.new.latch_number ≡ 1 }
+    ensures shelf { room.new.shelf ≡ room.old.shelf }
 {
     let (row_count, page_count) = needed_by(op);
     let _row_stop = rows.stop;
     let _page_stop = pages.stop;
-    Room {
-        rows: Span {
-            next: rows.next,
-            stop: rows.next + row_count.min(rows.len()),
-        },
-        pages: Span {
-            next: pages.next,
-            stop: pages.next + page_count,
-        },
-        latch_number: LATCH,
-        shelf,
-    }
+    room.rows = Span {
+        next: rows.next,
+        stop: rows.next + row_count.min(rows.len()),
+    };
+    room.pages = Span {
+        next: pages.next,
+        stop: pages.next + page_count,
+    };
+    room.latch_number = LATCH;
 }
 
 // The part of a member that runs an operation to its end, with the tree's table. In the clauses below `self.exit.0` is the reference

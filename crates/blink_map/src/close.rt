@@ -194,7 +194,7 @@ fn settle(live: &Live, host: &mut Seat<u8, View>, member: Member)
         rows: _,
         pages: _,
         place: _,
-        shelf: _,
+        room: _,
         mark: _,
     } = member;
     settle_with(live, host, seat);

@@ -41,7 +41,7 @@ impl Member {
             rows: _,
             pages: _,
             place,
-            shelf: _,
+            room: _,
             mark,
         } = self;
         mark_place(live, seat, *place, next_mark(mark));

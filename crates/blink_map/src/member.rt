@@ -5,7 +5,7 @@ ghost use Rattle.blink_live.specs.declared.view.Role.TheVariants.{Pass};
 ghost use Rattle.blink_live.specs.{IsCommon, IsShelved, IsShelved-prop, KnowsAuthors};
 
 use atomic_table::Seat;
-use blink_live::{Room, Shelf, View};
+use blink_live::{Room, View};
 use blink_machine::Resting;
 use blink_rows::Span;
 
@@ -22,8 +22,9 @@ pub(crate) struct Member {
     pub mark: u64,
     pub rows: Span,
     pub pages: Span,
-    // The rows that the member's changes have taken out, and their way back.
-    pub shelf: Option<Shelf>,
+    // What an operation of the member may use, which is aimed at each one as it begins, and not moved. Between operations its shelf
+    // alone counts: the rows that the member's changes have taken out, and their way back.
+    pub room: Room,
     ghost rows_are: { rows ≡ seat.me.0.rows },
     ghost pages_are: { pages ≡ seat.me.0.pages },
     ghost place_is: { (place ≡ seat.me.0.place) × (place < seat.me.0.plan.places) },
@@ -36,7 +37,7 @@ pub(crate) struct Member {
     ghost rests: { seat.me.0.busy ≡ 0 },
     ghost authors: { KnowsAuthors seat.me.0 },
     ghost no_slot: { seat.me.1 ≡ [] },
-    ghost shelved: { IsShelved shelf seat.me.0 } by { IsShelved-prop shelf seat.me.0 },
+    ghost shelved: { IsShelved room.shelf seat.me.0 } by { IsShelved-prop room.shelf seat.me.0 },
 }
 
 /// An operation of a member that has begun, and what the member has. The operation may still use what is in `room`.

@@ -5,6 +5,7 @@ ghost use Rattle.blink_live.specs.{no_stock, stock_of};
 ghost use Rattle.blink_map.specs.Opening.{AreFirst, AreFirstSessions, IsFirstAt, IsHostWith};
 ghost use Rattle.blink_map.specs.Sessions.{IsSessionOf, IsOpenedWith, IsTooLarge};
 
+use crate::change::room_with;
 use crate::common::{Extent, open_common};
 use crate::error::MapError;
 use crate::map::{Map, Room, Session};
@@ -177,7 +178,7 @@ fn admit<B: Dealt>(live: &Live, host: &mut Seat<u8, View>, place: u64, shelf: Sh
         rows: Span { next: 1, stop: 1 },
         pages: Span { next: 1, stop: 1 },
         place,
-        shelf: Some(shelf),
+        room: room_with(shelf),
         mark: 0,
     }
 }

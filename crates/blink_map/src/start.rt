@@ -10,7 +10,7 @@ ghost use Rattle.blink_map.specs.Places.{IsMemberOf};
 ghost use Rattle.blink_map.specs.Sessions.{HasRoom, IsAnswered, IsSameBesideRoom, IsSessionOf, LacksRoom};
 ghost use Rattle.blink_map.specs.Starting.{HasStopped};
 
-use crate::change::{come_back, room_of};
+use crate::change::{aim, come_back};
 use crate::map::{Map, Pending, Session, Stopped};
 use crate::member::{Member, REST, UnderWay, next_mark};
 use crate::steps::mark_place;
@@ -80,11 +80,11 @@ impl Member {
             rows,
             pages,
             place,
-            shelf,
+            mut room,
             mut mark,
         } = self;
         mark_place(live, &mut seat, place, next_mark(&mut mark));
-        let mut room = room_of(op, &rows, &pages, shelf);
+        aim(&mut room, op, &rows, &pages);
         match live.change_by(&mut seat, &mut room, op, tries) {
             Changed::Ended(answer) => {
                 come_back(live, &mut seat, place);
@@ -99,7 +99,7 @@ impl Member {
                         stop: pages.stop,
                     },
                     place,
-                    shelf: room.shelf,
+                    room,
                     mark,
                 };
                 Ok((member, answer))

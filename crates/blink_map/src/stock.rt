@@ -25,7 +25,7 @@ impl Map {
         ensures { result ≡ stock_of session.now }
     {
         let member = &session.member;
-        let (free, taken_out, waiting, spare) = match &member.shelf {
+        let (free, taken_out, waiting, spare) = match &member.room.shelf {
             Some(shelf) => (
                 shelf.free.len(),
                 shelf.retired.len(),

@@ -44,7 +44,7 @@ impl Member {
             rows: _,
             pages: _,
             place: _,
-            shelf: _,
+            room: _,
             mark: _,
         } = self;
         let Member {
@@ -52,7 +52,7 @@ impl Member {
             rows: _,
             pages: _,
             place,
-            shelf: _,
+            room: _,
             mark: _,
         } = other;
         live.pass_on(teller, seat);

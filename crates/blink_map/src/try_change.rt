@@ -7,7 +7,7 @@ ghost use Rattle.blink_map.specs.Places.{IsMemberOf};
 ghost use Rattle.blink_map.specs.Putting.{HasTried, IsUnchangedBy, LacksKeyOf};
 ghost use Rattle.blink_map.specs.Sessions.{HasRoom, IsAnswered, IsSameBesideRoom, IsSessionOf, LacksRoom};
 
-use crate::change::{come_back, room_of};
+use crate::change::{aim, come_back};
 use crate::error::Full;
 use crate::map::{Map, Session};
 use crate::member::{Member, next_mark};
@@ -87,16 +87,15 @@ impl Member {
             rows,
             pages,
             place,
-            shelf,
+            room,
             mark,
         } = self;
         mark_place(live, seat, *place, next_mark(mark));
-        let mut room = room_of(op, rows, pages, shelf.take());
-        let given = live.try_change_by(seat, &mut room, op, tries);
+        aim(room, op, rows, pages);
+        let given = live.try_change_by(seat, room, op, tries);
         come_back(live, seat, *place);
         rows.next = room.rows.next;
         pages.next = room.pages.next;
-        *shelf = room.shelf;
         given
     }
 }

@@ -12,7 +12,7 @@ loop-next-init c =
     let same_fan : me.0.plan.fan ≡ c.args.self.now.fan = ap (λ (p : Plan). p.fan) c.requires.seat.same_plan ∙ sym c.args.self.now.fan_is.0 in
     record {
       same_table = c.root-number.ensures.same;
-      come = subst (λ (xs : List ℕ). HasComeBy c.args.self.now.fan c.args.op (for_call me.0 c.args.op, me.1) c.root-number.new.seat.me xs c.root-number.result.0 c.root-number.result.1) (sym c.new-above.ensures)
+      come = subst (λ (xs : List ℕ). HasComeBy c.args.self.now.fan c.args.op (for_call me.0 c.args.op, me.1) c.root-number.new.seat.me xs c.root-number.result.0 c.root-number.result.1) (sym c.clear.ensures)
           (comes_by_root c.args.self.now.fan c.args.op c.root-number.result.0 c.root-number.result.1 me c.root-number.new.seat.me same_fan c.root-number.ensures.begun);
     }
 

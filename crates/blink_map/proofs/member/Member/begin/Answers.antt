@@ -10,12 +10,12 @@ set_out-machine-requires-clause-can_begin c = can_begin c.args.op c.args.self c.
 
 pub mark_place-requires-2 : goal.mark_place-requires-2
 mark_place-requires-2 c =
-    let out : HasSetOut c.args.live.now c.args.op c.args.self c.set_out-machine.new.seat c.set_out-machine.result c.room_of-room.result = record { first = c.mark_place.new.seat; mark = c.next_mark.result; marked = c.mark_place.ensures.marked; same_number = c.mark_place.ensures.same; under_way = c.set_out-machine.ensures.under_way } in
+    let out : HasSetOut c.args.live.now c.args.op c.args.self c.set_out-machine.new.seat c.set_out-machine.result c.aim.new.room = record { first = c.mark_place.new.seat; mark = c.next_mark.result; marked = c.mark_place.ensures.marked; same_number = c.mark_place.ensures.same; under_way = c.set_out-machine.ensures.under_way } in
     record { seat = its_seat out; place = its_place out c.requires.its_own; idle = inr (omega arith) }
 
 pub returns-clause-at_rest : goal.returns-clause-at_rest
 returns-clause-at_rest c =
-    let out : HasSetOut c.args.live.now c.args.op c.args.self c.set_out-machine.new.seat c.set_out-machine.result c.room_of-room.result = record { first = c.mark_place.new.seat; mark = c.next_mark.result; marked = c.mark_place.ensures.marked; same_number = c.mark_place.ensures.same; under_way = c.set_out-machine.ensures.under_way } in
+    let out : HasSetOut c.args.live.now c.args.op c.args.self c.set_out-machine.new.seat c.set_out-machine.result c.aim.new.room = record { first = c.mark_place.new.seat; mark = c.next_mark.result; marked = c.mark_place.ensures.marked; same_number = c.mark_place.ensures.same; under_way = c.set_out-machine.ensures.under_way } in
     record {
       rest = comes_to_rest out c.mark_place-2.new.seat c.mark_place-2.ensures.same c.mark_place-2.ensures.marked;
       beside = record { rows = refl; pages = refl; place = refl };

@@ -46,7 +46,7 @@ invariant_of-self c =
       rests = ap (λ (x : SeatState). x.0.busy) now;
       authors = subst KnowsAuthors (sym (ap (λ (x : SeatState). x.0) now)) c.mark_place-2.ensures.authors;
       no_slot = ap (λ (x : SeatState). x.1) now ∙ (found.same_slots ∙ (ap (λ (x : SeatState). x.1) marked ∙ old.no_slot));
-      shelved = shelved_so old.shelf old.seat.me.0 c.mark_place-2.new.seat.me.0 plan (ap (λ (x : SeatState). x.0.stock) now ∙ (found.same_stock ∙ ap (λ (x : SeatState). x.0.stock) marked)) old.shelved;
+      shelved = shelved_so old.room.shelf old.seat.me.0 c.mark_place-2.new.seat.me.0 plan (ap (λ (x : SeatState). x.0.stock) now ∙ (found.same_stock ∙ ap (λ (x : SeatState). x.0.stock) marked)) old.shelved;
     }
 
 pub returns-clause-report : goal.returns-clause-report
