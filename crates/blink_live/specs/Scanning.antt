@@ -1,9 +1,10 @@
 -- What a scan reports of a range of keys while others change them.
-use Rattle.std.specs.Prelude.{◌≡◌, ℕ, ◌+◌, ◌<◌, ◌≤◌, Option, Some, None, List, ◌++◌, length, drop, Contains}
+use Rattle.std.specs.Prelude.{◌≡◌, ℕ, ◌+◌, ◌<◌, ◌≤◌, Option, Some, None, List, ◌++◌, length, drop, get_or, Contains}
 use mathlib.Core.List.{IsPrefix}
 use Rattle.std.specs.List.{AllByRecursion}
 use Rattle.blink_batch.specs.declared.Entry.{Entry}
 use Rattle.blink_batch.specs.{IsAscending, pointer_of}
+use Rattle.blink_page.specs.{PlainPage}
 use Rattle.blink_live.specs.declared.view.Change.{Change}
 use Rattle.blink_live.specs.Changes.{after}
 use Rattle.blink_live.specs.Finding.{HasSearched}
@@ -72,6 +73,10 @@ pub record IsCopied (known : ℕ → Option ℕ) (from stop : ℕ) (entries : Li
 abbrev pub IsLeafEnd : ℕ → ℕ → Option ℕ → Type 0
 IsLeafEnd hi high None = hi ≤ high
 IsLeafEnd hi high (Some next) = (next ≡ high + 1) × (high < hi)
+
+-- the leaf's first key is from `from` on
+abbrev pub BeginsFrom : ℕ → PlainPage → Type 0
+BeginsFrom from leaf = from ≤ (get_or leaf.entries 0 (0, 0)).0
 
 -- the seat has scanned from `lo` to before `stop`
 pub record HasScanned (lo stop : ℕ) (entries : List Entry) (first me : SeatState) : Type 0 where

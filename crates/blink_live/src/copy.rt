@@ -1,12 +1,13 @@
 //! Copies of the entries of a leaf whose row has records that add or remove keys. They are made beside the caller's slice, which may be
 //! shorter than they are, and of which no place is touched that isn't filled.
-ghost use Rattle.std.specs.Prelude.{◌≡◌, ℕ, ◌+◌, ◌<◌, ◌≤◌, Some, length, slice_get, take};
+ghost use Rattle.std.specs.Prelude.{◌≡◌, ℕ, ◌+◌, ◌<◌, ◌≤◌, List, Some, IfSome, length, slice_get, take};
 ghost use Rattle.blink_batch.specs.declared.Entry.{Entry};
 ghost use Rattle.blink_page.specs.{PlainPage};
 ghost use Rattle.blink_rows.specs.{row_in};
 ghost use Rattle.blink_live.specs.Editing.{pointers_in};
 ghost use Rattle.blink_live.specs.Scanning.{IsCopied, IsFilled, IsLeafEnd, stop_of};
-ghost use Rattle.blink_live.specs.Seats.{IsPassSeat, IsSameSeat, ReadsVersion};
+ghost use Rattle.blink_live.specs.Seats.{IsPassSeat, IsSameSeat, ReadsLeaf, ReadsVersion};
+ghost use Rattle.blink_live.specs.Views.{known_of};
 ghost use Rattle.blink_live.specs.Words.{IsRowNumber};
 
 use crate::edit::set_entry;
@@ -25,6 +26,32 @@ pub(crate) const ROW_ENTRIES: usize = (ROW_WORDS - HEAD_WORDS) / ENTRY_WORDS;
 pub(crate) const NO_ENTRY: Entry = Entry { key: 0, pointer: 0 };
 
 impl Live {
+    // Copies entries of the leaf that the seat reads: those of the range, and as many as there are places. The function is out of line, so
+    // that no other leaf's copy clears room for this one.
+    #[inline(never)]
+    pub(crate) fn copy_changed(
+        &self,
+        seat: &mut Seat<u8, View>,
+        word: u64,
+        range: KeyRange,
+        into: &mut [Entry],
+    ) -> Scanned
+        requires seat { IsPassSeat self.now seat.old.table_id seat.old.me }
+        requires row { IsRowNumber self.now.counts (row_in word) }
+        requires leaf { ReadsLeaf range.lo word seat.old.me }
+        requires range { range.lo ≤ range.hi }
+        requires some_place { 1 ≤ length into.old }
+        ensures same { IsSameSeat seat.old seat.new }
+        ensures copied { (entries : List Entry) × IsFilled entries into.old into.new
+            × (result.filled ≡ length entries)
+            × IsCopied (known_of seat.old.me.0) range.lo (stop_of range.hi result.next) entries }
+        ensures further { IfSome result.next (λ next. (range.lo < next) × (next ≤ range.hi)) }
+    {
+        let mut leaf = [NO_ENTRY; ROW_ENTRIES];
+        let copied = self.copy_edited(seat, word, range, &mut leaf);
+        give(&leaf[..copied.filled], copied.next, into)
+    }
+
     // Copies the entries of the leaf that the seat reads, those whose keys are in the range: the base's first, to which the records are
     // applied then. It returns their number, and the key behind the leaf, if the range goes on there.
     pub(crate) fn copy_edited(

@@ -1,7 +1,7 @@
 //! Scans: the entries of a range of keys in ascending order, while other passes change the tree.
 //!
 //! A scan goes from leaf to leaf. To the first leaf it descends, with a find for the first key, and then it follows the right links.
-//! A scan of few entries mostly ends in its first leaf, so there it notes no leaf, and descends once more if it goes on. A page that
+//! A scan of one entry mostly ends in its first leaf, so there it notes no leaf, and descends once more if it goes on. A page that
 //! once was a leaf stays one and keeps its floor, so a link that the seat has read leads to the leaf of the next key, unless that leaf
 //! has been split since; then the scan descends again. The load of the leaf's page word tells the seat the state of each of the leaf's
 //! keys, and nobody stores to the row that it names while the scan reads there. So the entries of one leaf are those of one time;
@@ -15,19 +15,17 @@ ghost use Rattle.blink_rows.specs.declared.limits.TheConstants.{ROW_WORDS};
 ghost use Rattle.blink_live.specs.Along.{GoesAlong, IsNotedLeaf};
 ghost use Rattle.blink_live.specs.Finding.{HasSearched, IsIdle};
 ghost use Rattle.blink_live.specs.Handles.{IsPassOf, IsSameBesideSeen, KnowsItsKeys, keys_of, opening_of, seen_of, share_of};
-ghost use Rattle.blink_live.specs.Scanning.{HasScanned, IsCopied, IsFilled, IsLeafEnd, IsReport, ReportLaw, SaysOfKeys, StoppedFull, stop_of};
+ghost use Rattle.blink_live.specs.Scanning.{BeginsFrom, HasScanned, IsCopied, IsFilled, IsLeafEnd, IsReport, ReportLaw, SaysOfKeys, StoppedFull, stop_of};
 ghost use Rattle.blink_live.specs.Seats.{HasSameNumber, HasStates, IsPassSeat, IsSameSeat, ReadsLeaf, ReadsPage};
 ghost use Rattle.blink_live.specs.Views.{known_of};
 ghost use Rattle.blink_live.specs.Words.{IsRowNumber, row_start, word_count};
 
-use crate::copy::{NO_ENTRY, ROW_ENTRIES, give};
 use crate::live::{Live, Pass};
 use crate::read::link_of;
 use crate::rule::GoAlong;
 use crate::view::View;
 use atomic_table::Seat;
 use blink_batch::Entry;
-use blink_page::MAX_FAN;
 use blink_rows::layout::{COUNT, ENTRY_WORDS, HIGH_KEY, RIGHT_LINK};
 use blink_rows::{HEAD_WORDS, records_in, row_in};
 
@@ -105,9 +103,9 @@ impl Live {
         let mut from = lo;
         let mut filled = 0;
         let mut link = None;
-        let few = into.len() <= MAX_FAN;
+        let one = into.len() == 1;
         while filled < into.len() {
-            let alone = few && from == lo;
+            let alone = one && from == lo;
             let (run, right) = self.scan_leaf(seat, from, hi, &mut into[filled..], alone, link);
             filled += run.filled;
             link = right;
@@ -265,14 +263,76 @@ impl Live {
             self.replace_in(seat, word, &mut into[..copied.filled]);
             return copied;
         }
-        let mut leaf = [NO_ENTRY; ROW_ENTRIES];
-        let range = KeyRange { lo: from, hi };
-        let copied = self.copy_edited(seat, word, range, &mut leaf);
-        give(&leaf[..copied.filled], copied.next, into)
+        self.copy_changed(seat, word, KeyRange { lo: from, hi }, into)
     }
 
     // The same of the page whose row the seat reads, without the records behind it.
     pub(crate) fn copy_row(
+        &self,
+        seat: &mut Seat<u8, View>,
+        row: u64,
+        from: u64,
+        hi: u64,
+        into: &mut [Entry],
+    ) -> Scanned
+        requires seat { IsPassSeat self.now seat.old.table_id seat.old.me }
+        requires row { IsRowNumber self.now.counts row }
+        requires leaf { (leaf : PlainPage) × ReadsPage seat.old.me row leaf × (from ≤ leaf.high) }
+        requires range { from ≤ hi }
+        requires some_place { 1 ≤ length into.old }
+        ensures same { IsSameSeat seat.old seat.new }
+        ensures copied { (leaf : PlainPage) (known : ℕ → Option ℕ)
+            → ReadsPage seat.old.me row leaf
+            → HasStates known from leaf
+            → (entries : List Entry) × IsFilled entries into.old into.new
+            × (result.filled ≡ length entries) × IsCopied known from (stop_of hi result.next) entries }
+        ensures within { (leaf : PlainPage) → ReadsPage seat.old.me row leaf
+            → stop_of hi result.next ≤ leaf.high + 1 }
+        ensures few { (leaf : PlainPage) → ReadsPage seat.old.me row leaf
+            → result.filled ≤ length leaf.entries }
+        ensures ends { (leaf : PlainPage) → ReadsPage seat.old.me row leaf
+            → result.filled < length into.old → IsLeafEnd hi leaf.high result.next }
+        ensures further { IfSome result.next (λ next. (from < next) × (next ≤ hi)) }
+    {
+        let start = self.row_place(row);
+        let count = self.load_word(seat, start, COUNT) as usize;
+        let high = self.load_word(seat, start, HIGH_KEY);
+        let first = self.load_word(seat, start, HEAD_WORDS);
+        if count == 0 || count > into.len() || first < from || high >= hi {
+            return self.copy_part(seat, row, from, hi, into);
+        }
+        self.copy_all(seat, start, count, into);
+        Scanned {
+            filled: count,
+            next: Some(high + 1),
+        }
+    }
+
+    // Copies all entries of the page whose row begins at `start`. Most leaves of a long scan lie in its range, so no key is tested.
+    fn copy_all(&self, seat: &mut Seat<u8, View>, start: usize, count: usize, into: &mut [Entry])
+        requires seat { IsPassSeat self.now seat.old.table_id seat.old.me }
+        requires inside { start + ROW_WORDS ≤ word_count self.now.counts }
+        requires few { count ≤ MAX_FAN }
+        requires room { count ≤ length into.old }
+        ensures same { IsSameSeat seat.old seat.new }
+        ensures copied { (row : ℕ) (leaf : PlainPage) → start ≡ row_start self.now.counts row
+            → ReadsPage seat.old.me row leaf
+            → count ≡ length leaf.entries
+            → (from : ℕ) (known : ℕ → Option ℕ) → BeginsFrom from leaf
+            → HasStates known from leaf
+            → (entries : List Entry) × IsFilled entries into.old into.new
+            × (count ≡ length entries) × IsCopied known from (leaf.high + 1) entries }
+    {
+        for place in 0..count {
+            let at = HEAD_WORDS + ENTRY_WORDS * place;
+            let key = self.load_word(seat, start, at);
+            let pointer = self.load_word(seat, start, at + 1);
+            into[place] = Entry { key, pointer };
+        }
+    }
+
+    // The same of a page that the range may begin or end in, or for whose entries there may be too few places.
+    fn copy_part(
         &self,
         seat: &mut Seat<u8, View>,
         row: u64,

@@ -123,6 +123,30 @@ impl Live {
         if records_in(word).count == 0 {
             return self.copy_row_back(seat, row_in(word), lo, from, into);
         }
+        self.copy_changed_back(seat, word, lo, from, into)
+    }
+
+    // The same of a leaf that has records. The function is out of line, so that no other leaf's copy clears room for this one.
+    #[inline(never)]
+    fn copy_changed_back(
+        &self,
+        seat: &mut Seat<u8, View>,
+        word: u64,
+        lo: u64,
+        from: u64,
+        into: &mut [Entry],
+    ) -> Scanned
+        requires seat { IsPassSeat self.now seat.old.table_id seat.old.me }
+        requires row { IsRowNumber self.now.counts (row_in word) }
+        requires leaf { ReadsLeaf from word seat.old.me }
+        requires range { lo ≤ from }
+        requires some_place { 1 ≤ length into.old }
+        ensures same { IsSameSeat seat.old seat.new }
+        ensures copied { (entries : List Entry) × IsFilled (reverse entries) into.old into.new
+            × (result.filled ≡ length entries)
+            × IsCopied (known_of seat.old.me.0) (start_of lo result.next) (from + 1) entries }
+        ensures further { IfSome result.next (λ next. (lo ≤ next) × (next < from)) }
+    {
         let mut leaf = [NO_ENTRY; ROW_ENTRIES];
         let range = KeyRange { lo, hi: from };
         let copied = self.copy_edited(seat, word, range, &mut leaf);

@@ -1,12 +1,13 @@
 -- A scan copies the entries of a leaf one after another.
-use Rattle.std.proofs.Common.{◌≡◌, ℕ, ◌+◌, ◌<◌, ◌≤◌, Option, List, [], ◌∷◌, ◌++◌, length, get_or, take, refl, sym, ap, ◌∙◌, subst, arith, length-append}
+use Rattle.std.proofs.Common.{◌≡◌, ℕ, zero, suc, ◌+◌, ◌<◌, ◌≤◌, Option, List, [], ◌∷◌, ◌++◌, length, get_or, take, refl, sym, ap, ◌∙◌, subst, arith, length-append}
 use Rattle.std.specs.Prelude.{set}
 use Rattle.std.proofs.lemmas.List.{take_all, take_more}
 use Rattle.blink_batch.specs.declared.Entry.{Entry}
 use Rattle.blink_batch.specs.{entry}
-use Rattle.blink_page.specs.{IsLawfulPage, PlainPage, least_above, value_at}
+use Rattle.blink_page.specs.{IsLawfulPage, IsRising, PlainPage, least_above, value_at}
 use Rattle.blink_page.specs.declared.limits.TheConstants.{MAX_FAN}
-use Rattle.blink_live.specs.Scanning.{IsCopied, IsFilled}
+use Rattle.blink_page.proofs.Offered.{rising_get}
+use Rattle.blink_live.specs.Scanning.{BeginsFrom, IsCopied, IsFilled}
 use Rattle.blink_live.specs.Seats.{HasStates}
 use Rattle.blink_live.proofs.scanned.EntriesBetween.{below_end, between, between_with, between_without, copied_all, copied_to_end, copied_to_hi, copied_to_place, next_is_behind}
 use Rattle.blink_live.proofs.scanned.PlacesAreFilled.{filled_more, filled_none}
@@ -41,13 +42,31 @@ module _ (from hi : ℕ) (pairs : List (ℕ × ℕ)) (old now : List Entry) (pla
       ap (between from (hi + 1)) (take_more pairs place (0, 0) inside) ∙ between_without from (hi + 1) e.0 e.1 (take place pairs) (omega (arith, its_key, less)) in
       subst (λ (es : List Entry). IsFilled es old now × (filled ≡ length es)) (sym same) was
 
--- ---- the ends of the copy of a leaf
+-- ---- the copy of a whole leaf
+
+-- no key is below the first
+first_is_least : (a b place : ℕ) (pairs : List (ℕ × ℕ)) → IsRising a pairs b → place < length pairs → (get_or pairs 0 (0, 0)).0 ≤ (get_or pairs place (0, 0)).0
+first_is_least a b place [] rises inside = absurd (omega (arith, inside))
+first_is_least a b zero ((k, v) ∷ rest) rises inside = omega arith
+first_is_least a b (suc place) ((k, v) ∷ rest) rises inside =
+    let further = rising_get (0, 0) (k + 1) place rest b rises.1 (omega (arith, inside)) in
+    omega (arith, further)
 
 -- no entry is behind the leaf's high key
 pub place_is_within : (leaf : PlainPage) (lawful : IsLawfulPage MAX_FAN leaf) (place key : ℕ) → place < length leaf.entries → key ≡ (get_or leaf.entries place (0, 0)).0 → key ≤ leaf.high
 place_is_within leaf lawful place key inside its_key =
     let below = below_end (least_above leaf.floor) (leaf.high + 1) place leaf.entries lawful.keys_rise inside in
     omega (arith, below, its_key)
+
+-- one entry more, where no key is below `from`
+pub whole_more : (from : ℕ) (leaf : PlainPage) (lawful : IsLawfulPage MAX_FAN leaf) (old now : List Entry) (place key pointer : ℕ) → HasCopied from leaf.high leaf.entries old place now place → place < length leaf.entries
+    → key ≡ (get_or leaf.entries place (0, 0)).0 → pointer ≡ (get_or leaf.entries place (0, 0)).1 → BeginsFrom from leaf → place < length old
+    → HasCopied from leaf.high leaf.entries old (place + 1) (set now place (entry key pointer)) (place + 1)
+whole_more from leaf lawful old now place key pointer was inside its_key its_pointer begins room =
+    let least = first_is_least (least_above leaf.floor) (leaf.high + 1) place leaf.entries lawful.keys_rise inside in
+    copied_more from leaf.high leaf.entries old now place place key pointer was inside its_key its_pointer (omega (arith, its_key, least, begins)) (place_is_within leaf lawful place key inside its_key) room
+
+-- ---- the ends of the copy of a leaf
 
 module _ (from hi : ℕ) (known : ℕ → Option ℕ) (leaf : PlainPage) (lawful : IsLawfulPage MAX_FAN leaf) (has : HasStates known from leaf) (old now : List Entry) (filled place : ℕ) (was : HasCopied from hi leaf.entries old place now filled) where
   abbrev pub IsCopiedTo : ℕ → Type 0

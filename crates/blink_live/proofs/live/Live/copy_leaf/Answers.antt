@@ -1,11 +1,10 @@
-use Rattle.std.proofs.Common.{ℕ, take, sym, ap, ◌∙◌, subst, arith}
+use Rattle.std.proofs.Common.{ℕ, sym, ap, ◌∙◌, subst, arith}
 use Rattle.std.proofs.lemmas.List.{length-take-le}
 use Rattle.blink_rows.specs.declared.naming.Records.{Records}
 use Rattle.blink_live.specs.Scanning.{stop_of}
 use Rattle.blink_live.specs.Seats.{ReadsPage}
 use Rattle.blink_live.specs.Views.{known_of}
 use Rattle.blink_live.proofs.found.VersionsAreRead.{base_in, page_alone}
-use Rattle.blink_live.proofs.scanned.LeavesAreGiven.{first_is_further, given_first}
 use Rattle.blink_live.proofs.scanned.LeavesOfReplacements.{first_copied, leaf_copied, no_more, version_still}
 use Rattle.blink_live.proofs.live.Live.copy_leaf.Goals as goal
 
@@ -44,21 +43,3 @@ returns-then-records-eq0-2-clause-copied c =
     (c.copy_row-copied.ensures.within leaf.reads.base (base_in leaf.reads row))
     (c.replace_in.ensures.copied leaf.leaf (version_still c.copy_row-copied.ensures.same.2 leaf.reads) c.args.from stop
     (first_copied leaf row c.args.into.now c.copy_row-copied.new.into filled stop c.copy_row-copied.ensures.copied))
-
--- ---- some record adds or removes a key
-
-pub returns-clause-copied : goal.returns-clause-copied
-returns-clause-copied c =
-    let leaf = c.requires.leaf in
-    let edited = c.copy_edited-copied in
-    let given = c.give.ensures in
-    given_first leaf c.args.hi edited.result.next (take edited.result.filled edited.new.leaf) (edited.ensures.copied leaf.leaf leaf.reads) (edited.ensures.ends leaf.leaf leaf.reads)
-    c.args.into.now c.give.new.into c.give.result.filled c.give.result.next given.filled given.within given.all given.some
-
-pub returns-clause-further : goal.returns-clause-further
-returns-clause-further c =
-    let leaf = c.requires.leaf in
-    let edited = c.copy_edited-copied in
-    let given = c.give.ensures in
-    first_is_further leaf c.args.hi edited.result.next (take edited.result.filled edited.new.leaf) (edited.ensures.copied leaf.leaf leaf.reads) (edited.ensures.ends leaf.leaf leaf.reads)
-    c.args.into.now c.give.new.into c.give.result.filled c.give.result.next given.filled given.within given.all given.some c.requires.some_place

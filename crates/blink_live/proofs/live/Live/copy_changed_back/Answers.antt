@@ -6,7 +6,7 @@ use Rattle.blink_live.specs.Views.{SeatState}
 use Rattle.blink_live.proofs.found.VersionsAreRead.{base_in}
 use Rattle.blink_live.proofs.scanned.LeavesAreGiven.{given_last, last_is_before}
 use Rattle.blink_live.proofs.table.VersionsOfPages.{same_head}
-use Rattle.blink_live.proofs.live.Live.copy_leaf_back.Goals as goal
+use Rattle.blink_live.proofs.live.Live.copy_changed_back.Goals as goal
 
 -- the floor that is loaded after the copy is the leaf's
 its_floor : {me now : SeatState} {word from : ℕ} (is : ReadsLeaf from word me) (row : ℕ) (floor : Option ℕ) → row ≡ row_in word → now ≡ me → ((page : PlainPage) → ReadsPage now row page → floor ≡ page.floor) → floor ≡ is.leaf.floor
@@ -20,7 +20,7 @@ returns-clause-copied c =
     let given = c.give.ensures in
     given_last leaf c.args.lo edited.result.next (take edited.result.filled edited.new.leaf) (edited.ensures.copied leaf.leaf leaf.reads) (edited.ensures.ends leaf.leaf leaf.reads)
     c.load_floor-floor.result c.not_below-next.result
-    (its_floor leaf c.row_in-2.result c.load_floor-floor.result c.row_in-2.ensures.row edited.ensures.same.2 (λ page. c.load_floor-floor.ensures.floor c.row_in-2.result page c.row_place-start.ensures.start))
+    (its_floor leaf c.row_in.result c.load_floor-floor.result c.row_in.ensures.row edited.ensures.same.2 (λ page. c.load_floor-floor.ensures.floor c.row_in.result page c.row_place-start.ensures.start))
     c.not_below-next.ensures.some c.not_below-next.ensures.none
     c.reverse.new.self c.args.into.now c.give.new.into c.reverse.ensures.after c.give.result.filled c.give.result.next given.filled given.within given.all given.some
 
@@ -31,6 +31,6 @@ returns-clause-further c =
     let given = c.give.ensures in
     last_is_before leaf c.args.lo edited.result.next (take edited.result.filled edited.new.leaf) (edited.ensures.copied leaf.leaf leaf.reads) (edited.ensures.ends leaf.leaf leaf.reads)
     c.load_floor-floor.result c.not_below-next.result
-    (its_floor leaf c.row_in-2.result c.load_floor-floor.result c.row_in-2.ensures.row edited.ensures.same.2 (λ page. c.load_floor-floor.ensures.floor c.row_in-2.result page c.row_place-start.ensures.start))
+    (its_floor leaf c.row_in.result c.load_floor-floor.result c.row_in.ensures.row edited.ensures.same.2 (λ page. c.load_floor-floor.ensures.floor c.row_in.result page c.row_place-start.ensures.start))
     c.not_below-next.ensures.some c.not_below-next.ensures.none
     c.reverse.new.self c.args.into.now c.give.new.into c.reverse.ensures.after c.give.result.filled c.give.result.next given.filled given.within given.all given.some c.requires.some_place

@@ -2,7 +2,7 @@ use Rattle.std.proofs.Common.{◌≡◌, ◌≤◌, length}
 use Rattle.blink_page.specs.{PlainPage}
 use Rattle.blink_live.specs.Seats.{IsSameSeat, ReadsPage}
 use Rattle.blink_live.proofs.scanned.LeavesAreCopied.{HasCopied}
-use Rattle.blink_live.proofs.live.Live.copy_row.Given as goal
+use Rattle.blink_live.proofs.live.Live.copy_part.Given as goal
 
 abbrev pub invariant-loop-place : goal.invariant-loop-place
 invariant-loop-place l = record {
