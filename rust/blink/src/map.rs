@@ -1,6 +1,7 @@
 //! The map.
 
 use crate::dropped::Dropped;
+use crate::range::Places;
 use crate::session::Session;
 use crate::sys::{self, Handle};
 use crate::waiting::TRIES;
@@ -272,10 +273,10 @@ impl Map {
     /// ```
     pub fn session(&self) -> Result<Session, Error> {
         self.dropped.advance(TRIES);
-        let mut handle = Handle::EMPTY;
+        let (mut handle, places) = (Handle::EMPTY, Places::new()?);
         // SAFETY: the map's handle is full, and locked; `handle` is empty.
         Error::check(unsafe { sys::blink_map_join_alone(&mut *self.lock(), &mut handle) })?;
-        Ok(Session { handle, dropped: Arc::clone(&self.dropped) })
+        Ok(Session { handle, dropped: Arc::clone(&self.dropped), places })
     }
 
     /// Returns what the map's pool has left, for a look: sessions may draw at any time, and the map may be renewed. What they have drawn and

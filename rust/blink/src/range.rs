@@ -3,8 +3,8 @@
 use crate::memory::{resize, with_room};
 use crate::sys::{Handle, RawEntry, RawScanned, RawTaken, ScanCall, SnapshotCall};
 use crate::Error;
-use std::fmt;
 use std::ops::{Bound, RangeBounds};
+use std::{fmt, slice};
 
 // The first and the last key of a range that has one. As `BTreeMap::range` does, it panics at a range whose start is above its end, and at
 // one that excludes one key from both sides.
@@ -30,80 +30,81 @@ pub(crate) fn first_and_last(range: &impl RangeBounds<u64>) -> Option<(u64, u64)
     lo.zip(hi).filter(|(lo, hi)| lo <= hi)
 }
 
-// The entries that a scan has taken out, and hasn't given yet. It takes them out in parts: 16 first, then twice as many each time, up
-// to 256. The first part stands in an array, so that a short range asks for no memory.
-#[derive(Clone)]
-pub(crate) struct Parts {
-    first: [RawEntry; Parts::FIRST],
-    later: Vec<RawEntry>,
-    // How many entries have been asked for last; 0 before the first part.
-    part: usize,
-    // Where the entries of the last part stand that are still to be given.
-    next: usize,
-    stop: usize,
+/// How many entries the first part of a range has.
+pub(crate) const FIRST_PART: usize = 16;
+
+// The most that a part has.
+const MAX_PART: usize = 256;
+
+/// How many entries the part behind one of so many is asked for, 0 before the first: a short range pays for few, and a long one makes few calls.
+pub(crate) fn part_behind(last: usize) -> usize {
+    (2 * last).clamp(FIRST_PART, MAX_PART)
 }
 
-impl Parts {
-    const FIRST: usize = 16;
-    const MAX: usize = 256;
+// Takes entries of a range of keys out, as many as there are places. Returns how many, and the key from which the next ones go on, if there are
+// more. The handle is full, of what the call takes, and this thread's alone; no operation is under way.
+pub(crate) unsafe fn take_out(handle: *mut Handle, call: ScanCall, (lo, hi): (u64, u64), places: &mut [RawEntry]) -> (usize, Option<u64>) {
+    let mut scanned = RawScanned { filled: 0, more: 0, next: 0 };
+    // SAFETY: as the caller says; the array has that many elements.
+    let code = unsafe { call(handle, lo, hi, places.as_mut_ptr(), places.len(), &mut scanned) };
+    // No operation is under way, and a pass wasn't given back, by the types; nothing else is refused.
+    assert_eq!(code, 0);
+    (scanned.filled as usize, (scanned.more == 1).then_some(scanned.next))
+}
 
-    #[inline]
-    pub(crate) fn new() -> Parts {
-        Parts { first: [RawEntry::NONE; Parts::FIRST], later: Vec::new(), part: 0, next: 0, stop: 0 }
+// The places that a session or a pass has for the parts of its ranges, for those from the front and for those from the end. They are there for
+// the first part, and stay for the next range.
+pub(crate) struct Places {
+    front: Vec<RawEntry>,
+    back: Vec<RawEntry>,
+}
+
+impl Places {
+    pub(crate) fn new() -> Result<Places, Error> {
+        let mut places = Places { front: Vec::new(), back: Vec::new() };
+        resize(&mut places.front, FIRST_PART, RawEntry::NONE)?;
+        resize(&mut places.back, FIRST_PART, RawEntry::NONE)?;
+        Ok(places)
+    }
+}
+
+// What a range takes out from one of its ends. A loop over a range has the entries in registers, since no call gets an address in the range itself.
+struct End<'a> {
+    places: &'a mut Vec<RawEntry>,
+    // How many entries the last part was asked for; 0 before the first part.
+    part: usize,
+    // Those of the last part that are still to be given.
+    entries: slice::Iter<'a, RawEntry>,
+}
+
+impl<'a> End<'a> {
+    fn new(places: &'a mut Vec<RawEntry>) -> End<'a> {
+        End { places, part: 0, entries: [].iter() }
     }
 
-    /// The places for another part: a short range pays for few, and a long one makes few calls. Where memory for more is refused, the
-    /// part is as short as the first.
-    pub(crate) fn places(&mut self) -> &mut [RawEntry] {
-        let part = Parts::MAX.min(2 * self.part);
-        if self.part == 0 || resize(&mut self.later, part, RawEntry::NONE).is_err() {
-            self.part = Parts::FIRST;
-            return &mut self.first;
-        }
+    // Takes another part out, once all entries of the last one are given, and returns the key from which the next one goes on, if there is more.
+    // What the handle is `take_out` says.
+    #[inline]
+    unsafe fn refill(&mut self, handle: *mut Handle, call: ScanCall, keys: (u64, u64)) -> Option<u64> {
+        // SAFETY: as the caller says.
+        let (part, filled, next) = unsafe { refill(handle, call, keys, self.places, self.part) };
         self.part = part;
-        &mut self.later
+        // SAFETY: the places are borrowed as long as the range is. So many have entries, and no place is written before these are given.
+        self.entries = unsafe { slice::from_raw_parts(self.places.as_ptr(), filled) }.iter();
+        next
     }
+}
 
-    /// So many of the places have entries now, which are to be given.
-    pub(crate) fn fill(&mut self, count: usize) {
-        self.next = 0;
-        self.stop = count;
+// Fills the places with another part, and returns how many entries it was asked for, how many it has, and the key from which the next one goes
+// on. Where memory for more is refused, the part is as short as the first. What the handle is `take_out` says.
+unsafe fn refill(handle: *mut Handle, call: ScanCall, keys: (u64, u64), places: &mut Vec<RawEntry>, last: usize) -> (usize, usize, Option<u64>) {
+    let mut part = part_behind(last);
+    if places.len() < part && resize(places, part, RawEntry::NONE).is_err() {
+        part = FIRST_PART;
     }
-
-    /// How many entries are still to be given.
-    pub(crate) fn len(&self) -> usize {
-        self.stop - self.next
-    }
-
-    #[inline]
-    pub(crate) fn is_empty(&self) -> bool {
-        self.next == self.stop
-    }
-
-    /// Takes the next entry, if there is one.
-    #[inline]
-    pub(crate) fn take(&mut self) -> Option<(u64, u64)> {
-        if self.is_empty() {
-            return None;
-        }
-        self.next += 1;
-        self.at(self.next - 1)
-    }
-
-    /// Takes the last entry of the part, if there is one.
-    pub(crate) fn take_last(&mut self) -> Option<(u64, u64)> {
-        if self.is_empty() {
-            return None;
-        }
-        self.stop -= 1;
-        self.at(self.stop)
-    }
-
-    #[inline]
-    fn at(&self, place: usize) -> Option<(u64, u64)> {
-        let entry = if self.part == Parts::FIRST { self.first.get(place) } else { self.later.get(place) };
-        entry.copied().map(<(u64, u64)>::from)
-    }
+    // SAFETY: as the caller says.
+    let (filled, next) = unsafe { take_out(handle, call, keys, &mut places[..part]) };
+    (part, filled.min(part), next)
 }
 
 // The entries of a range as all of them were at one time; `None`, if no try succeeded. The handle is full, and of what the call takes;
@@ -145,7 +146,8 @@ pub(crate) fn snapshot(handle: &mut Handle, call: SnapshotCall, range: &impl Ran
 /// ends gets each key from one of them alone: no entry comes twice, and none is left out that was there throughout.
 ///
 /// From each end it takes the entries out in parts: 16 first, which takes no memory, then twice as many each time, up to 256, as long as
-/// memory for them is given. A part is read when it is asked for. Backwards each leaf takes a descent of its own.
+/// memory for them is given. The session or the pass keeps that for its next range, 4 KB at most for each end. A part is read when it is asked
+/// for. Backwards each leaf takes a descent of its own.
 #[must_use = "a range is read as it is iterated over"]
 pub struct LiveRange<'a> {
     handle: &'a mut Handle,
@@ -153,9 +155,8 @@ pub struct LiveRange<'a> {
     scan_back: ScanCall,
     // The keys that are still to be asked for, between those of the two parts.
     range: Option<(u64, u64)>,
-    front: Parts,
-    // It is there once the range has been read from its end.
-    back: Option<Parts>,
+    front: End<'a>,
+    back: End<'a>,
 }
 
 impl<'a> LiveRange<'a> {
@@ -163,40 +164,14 @@ impl<'a> LiveRange<'a> {
     #[track_caller]
     pub(crate) fn new(
         handle: &'a mut Handle,
+        places: &'a mut Places,
         scan: ScanCall,
         scan_back: ScanCall,
         range: &impl RangeBounds<u64>,
     ) -> LiveRange<'a> {
-        LiveRange { handle, scan, scan_back, range: first_and_last(range), front: Parts::new(), back: None }
+        let Places { front, back } = places;
+        LiveRange { handle, scan, scan_back, range: first_and_last(range), front: End::new(front), back: End::new(back) }
     }
-
-    fn refill(&mut self) {
-        let Some((lo, hi)) = self.range else { return };
-        // SAFETY: the handle is full, of what the call takes, and borrowed for writing; no operation is under way.
-        let next = unsafe { part(self.handle, self.scan, (lo, hi), &mut self.front) };
-        self.range = next.map(|next| (next, hi));
-    }
-
-    fn refill_back(&mut self) {
-        let Some((lo, hi)) = self.range else { return };
-        let back = self.back.get_or_insert_with(Parts::new);
-        // SAFETY: as in `refill`.
-        let next = unsafe { part(self.handle, self.scan_back, (lo, hi), back) };
-        self.range = next.map(|next| (lo, next));
-    }
-}
-
-// Takes another part of the entries of a range of keys out, and returns the key from which the next one goes on, if there is more. The
-// handle is full, of what the call takes, and this thread's alone; no operation is under way.
-pub(crate) unsafe fn part(handle: *mut Handle, call: ScanCall, (lo, hi): (u64, u64), parts: &mut Parts) -> Option<u64> {
-    let places = parts.places();
-    let mut scanned = RawScanned { filled: 0, more: 0, next: 0 };
-    // SAFETY: as the caller says; the array has that many elements.
-    let code = unsafe { call(handle, lo, hi, places.as_mut_ptr(), places.len(), &mut scanned) };
-    // No operation is under way, and a pass wasn't given back, by the types; nothing else is refused.
-    assert_eq!(code, 0);
-    parts.fill(scanned.filled as usize);
-    (scanned.more == 1).then_some(scanned.next)
 }
 
 impl Iterator for LiveRange<'_> {
@@ -205,16 +180,21 @@ impl Iterator for LiveRange<'_> {
     // Called once an entry, from another crate.
     #[inline]
     fn next(&mut self) -> Option<(u64, u64)> {
-        if self.front.is_empty() {
-            self.refill();
+        if self.front.entries.len() == 0 {
+            if let Some((lo, hi)) = self.range {
+                // SAFETY: the handle is full, of what the call takes, and borrowed for writing; no operation is under way.
+                let next = unsafe { self.front.refill(self.handle, self.scan, (lo, hi)) };
+                self.range = next.map(|next| (next, hi));
+            }
         }
         // What the range's end has taken out and not given comes after all others.
-        self.front.take().or_else(|| self.back.as_mut()?.take_last())
+        let entry = self.front.entries.next().or_else(|| self.back.entries.next_back());
+        entry.map(|&entry| entry.into())
     }
 
     // At least what was taken out is still to come, and no more once nothing is left to be asked for.
     fn size_hint(&self) -> (usize, Option<usize>) {
-        let taken = self.front.len() + self.back.as_ref().map_or(0, Parts::len);
+        let taken = self.front.entries.len() + self.back.entries.len();
         (taken, self.range.is_none().then_some(taken))
     }
 }
@@ -222,10 +202,15 @@ impl Iterator for LiveRange<'_> {
 impl DoubleEndedIterator for LiveRange<'_> {
     #[inline]
     fn next_back(&mut self) -> Option<(u64, u64)> {
-        if self.back.as_ref().map_or(true, Parts::is_empty) {
-            self.refill_back();
+        if self.back.entries.len() == 0 {
+            if let Some((lo, hi)) = self.range {
+                // SAFETY: as in `next`.
+                let next = unsafe { self.back.refill(self.handle, self.scan_back, (lo, hi)) };
+                self.range = next.map(|next| (lo, next));
+            }
         }
-        self.back.as_mut().and_then(Parts::take).or_else(|| self.front.take_last())
+        let entry = self.back.entries.next().or_else(|| self.front.entries.next_back());
+        entry.map(|&entry| entry.into())
     }
 }
 

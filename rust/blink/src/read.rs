@@ -1,7 +1,7 @@
 //! Reading an index: what an index and a reader do alike.
 
 use crate::memory::resize;
-use crate::range::{first_and_last, part, Parts};
+use crate::range::{first_and_last, part_behind, take_out, FIRST_PART};
 use crate::sys::{self, Code, Handle, RawAnswer, RawEntry, ScanCall};
 use crate::{Answer, Error};
 use std::cell::UnsafeCell;
@@ -227,12 +227,87 @@ pub struct Range<'a> {
     back: Option<Parts>,
 }
 
+// The entries that an index has taken out for a range, and that the range hasn't given yet. The first part stands in an array, so that a
+// short range asks for no memory.
+#[derive(Clone)]
+struct Parts {
+    first: [RawEntry; FIRST_PART],
+    later: Vec<RawEntry>,
+    // How many entries have been asked for last; 0 before the first part.
+    part: usize,
+    // Where the entries of the last part stand that are still to be given.
+    next: usize,
+    stop: usize,
+}
+
+impl Parts {
+    #[inline]
+    fn new() -> Parts {
+        Parts { first: [RawEntry::NONE; FIRST_PART], later: Vec::new(), part: 0, next: 0, stop: 0 }
+    }
+
+    // The places for another part. Where memory for more is refused, the part is as short as the first.
+    fn places(&mut self) -> &mut [RawEntry] {
+        let part = part_behind(self.part);
+        if self.part == 0 || resize(&mut self.later, part, RawEntry::NONE).is_err() {
+            self.part = FIRST_PART;
+            return &mut self.first;
+        }
+        self.part = part;
+        &mut self.later
+    }
+
+    // Takes another part out, and returns the key from which the next one goes on, if there is more. What the handle is `take_out` says.
+    unsafe fn refill(&mut self, handle: *mut Handle, call: ScanCall, keys: (u64, u64)) -> Option<u64> {
+        // SAFETY: as the caller says.
+        let (filled, next) = unsafe { take_out(handle, call, keys, self.places()) };
+        self.next = 0;
+        self.stop = filled;
+        next
+    }
+
+    // How many entries are still to be given.
+    fn len(&self) -> usize {
+        self.stop - self.next
+    }
+
+    #[inline]
+    fn is_empty(&self) -> bool {
+        self.next == self.stop
+    }
+
+    // Takes the next entry, if there is one.
+    #[inline]
+    fn take(&mut self) -> Option<(u64, u64)> {
+        if self.is_empty() {
+            return None;
+        }
+        self.next += 1;
+        self.at(self.next - 1)
+    }
+
+    // Takes the last entry of the part, if there is one.
+    fn take_last(&mut self) -> Option<(u64, u64)> {
+        if self.is_empty() {
+            return None;
+        }
+        self.stop -= 1;
+        self.at(self.stop)
+    }
+
+    #[inline]
+    fn at(&self, place: usize) -> Option<(u64, u64)> {
+        let entry = if self.part == FIRST_PART { self.first.get(place) } else { self.later.get(place) };
+        entry.copied().map(<(u64, u64)>::from)
+    }
+}
+
 impl Range<'_> {
     // Takes the next entries out of the index.
     fn refill(&mut self) {
         let Some((lo, hi)) = self.range else { return };
         // SAFETY: the handle is full, and of the call's kind; this thread alone uses it, since a `Range` isn't `Send`.
-        let next = unsafe { part(self.handle.get(), self.scan, (lo, hi), &mut self.front) };
+        let next = unsafe { self.front.refill(self.handle.get(), self.scan, (lo, hi)) };
         self.range = next.map(|next| (next, hi));
     }
 
@@ -241,7 +316,7 @@ impl Range<'_> {
         let Some((lo, hi)) = self.range else { return };
         let back = self.back.get_or_insert_with(Parts::new);
         // SAFETY: as in `refill`.
-        let next = unsafe { part(self.handle.get(), self.scan_back, (lo, hi), back) };
+        let next = unsafe { back.refill(self.handle.get(), self.scan_back, (lo, hi)) };
         self.range = next.map(|next| (lo, next));
     }
 }

@@ -1,7 +1,7 @@
 //! The session of a map.
 
 use crate::dropped::Dropped;
-use crate::range::{snapshot, LiveRange};
+use crate::range::{snapshot, LiveRange, Places};
 use crate::steps::{begins, Begun};
 use crate::sys::{self, Code, Handle, RawAnswer, RawEntry, RawScanned, RawTaken};
 use crate::waiting::{ended, renewed, TRIES};
@@ -51,6 +51,7 @@ pub struct Reserve {
 pub struct Session {
     pub(crate) handle: Handle,
     pub(crate) dropped: Arc<Dropped>,
+    pub(crate) places: Places,
 }
 
 // SAFETY: `SessionHandle` of crates/blink_c is proved to be `Send`.
@@ -243,7 +244,7 @@ impl Session {
     /// ```
     #[track_caller]
     pub fn range(&mut self, range: impl RangeBounds<u64>) -> LiveRange<'_> {
-        LiveRange::new(&mut self.handle, scan, scan_back, &range)
+        LiveRange::new(&mut self.handle, &mut self.places, scan, scan_back, &range)
     }
 
     /// Returns the entries whose keys are in the range, in ascending order, as all of them were at one time; `None`, if some leaf of

@@ -1,6 +1,6 @@
 //! The table and its passes.
 
-use crate::range::{snapshot, LiveRange};
+use crate::range::{snapshot, LiveRange, Places};
 use crate::sys::{self, Code, Handle, RawAnswer};
 use crate::waiting::TRIES;
 use crate::{Answer, Error, Index};
@@ -66,7 +66,7 @@ impl Table {
     /// # Ok::<(), Error>(())
     /// ```
     pub fn deal(&mut self, keys: &[u64], inserts: u32, deletes: u32) -> Result<Pass, Error> {
-        let mut handle = Handle::EMPTY;
+        let (mut handle, places) = (Handle::EMPTY, Places::new()?);
         let mut taken = 0;
         // SAFETY: the table's handle is full and borrowed for writing; `keys` is a slice; `handle` is empty.
         let code = unsafe {
@@ -76,6 +76,7 @@ impl Table {
         match code {
             0 => Ok(Pass {
                 handle: UnsafeCell::new(handle),
+                places,
             }),
             51 => Err(Error::Taken(taken)),
             code => Err(Error::of(code)),
@@ -154,6 +155,7 @@ impl fmt::Debug for Table {
 pub struct Pass {
     // A look-up takes the handle by a pointer for writing.
     handle: UnsafeCell<Handle>,
+    places: Places,
 }
 
 // SAFETY: `PassHandle` of crates/blink_c is proved to be `Send`. It isn't `Sync`, by its cell.
@@ -210,7 +212,7 @@ impl Pass {
     /// ```
     #[track_caller]
     pub fn range(&mut self, range: impl RangeBounds<u64>) -> LiveRange<'_> {
-        LiveRange::new(self.handle.get_mut(), sys::blink_pass_scan, sys::blink_pass_scan_back, &range)
+        LiveRange::new(self.handle.get_mut(), &mut self.places, sys::blink_pass_scan, sys::blink_pass_scan_back, &range)
     }
 
     /// Returns the entries whose keys are in the range, whosever they are, in ascending order, as all of them were at one time; `None`, if some leaf of

@@ -1,6 +1,6 @@
 //! What the crate's calls do where the memory for their own lists is refused: they are refused, or go on with less; the process goes on.
 
-use blink::{Answer, Error, Index, Map, Op, Room};
+use blink::{Answer, Error, Index, Map, Op, Room, Table};
 use std::alloc::{GlobalAlloc, Layout, System};
 use std::cell::Cell;
 use std::ptr;
@@ -61,6 +61,28 @@ fn scans_go_on_by_short_parts() {
     let mut session = map.session().unwrap();
     let count = with_most(300, || session.range(100..900).count());
     assert_eq!(count, 800);
+}
+
+#[test]
+fn a_range_takes_no_memory_where_one_before_was_as_long() {
+    let map = Map::open_fixed(&thousand(), Room { pages: 0, rows: 0, sessions: 1 }).unwrap();
+    let mut session = map.session().unwrap();
+    assert_eq!(with_most(0, || session.range(..).take(16).count()), 16);
+    let there: Vec<(u64, u64)> = session.range(..).collect();
+    let both = with_most(0, || session.range(..).zip(&there).all(|(entry, before)| entry == *before));
+    assert!(both && there.len() == 1000);
+    assert_eq!(with_most(0, || session.range(..).rev().map(|(key, _)| key).sum::<u64>()), 999 * 1000 / 2);
+}
+
+#[test]
+fn a_session_and_a_pass_are_refused_and_others_get_their_places() {
+    let map = Map::open_fixed(&thousand(), Room { pages: 0, rows: 0, sessions: 1 }).unwrap();
+    assert_eq!(with_most(200, || map.session()).unwrap_err(), Error::OutOfMemory);
+    assert_eq!(map.session().unwrap().get(7), Some(70));
+    let mut table = Table::open(&thousand(), 0, 1).unwrap();
+    assert_eq!(with_most(200, || table.deal(&[7], 0, 1)).unwrap_err(), Error::OutOfMemory);
+    let mut pass = table.deal(&[7], 0, 1).unwrap();
+    assert_eq!(pass.remove(7), Ok(Answer::Removed(70)));
 }
 
 #[test]
