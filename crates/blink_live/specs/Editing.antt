@@ -1,5 +1,5 @@
 -- A leaf's records, applied one after another to entries that were copied of its base.
-use Rattle.std.specs.Prelude.{◌≡◌, ◌≢◌, ℕ, ◌<◌, ◌≤◌, Option, Some, None, IsSome, List, take, drop}
+use Rattle.std.specs.Prelude.{◌≡◌, ◌≢◌, ℕ, suc, ◌<◌, ◌≤◌, Option, Some, None, IsSome, List, [], ◌∷◌, take, drop, nat_lt, if◌then◌else◌}
 use Rattle.std.specs.List.{AllByRecursion}
 use Rattle.blink_batch.specs.declared.Entry.{Entry}
 use Rattle.blink_page.specs.{PlainPage, value_at}
@@ -38,6 +38,11 @@ IsEdited Added key pointer known later = IsAdded key pointer known later
 IsEdited Removed key pointer known later = IsRemoved key known later
 
 -- ---- copied entries
+
+-- how many entries have lesser keys than this one
+abbrev pub lesser : ℕ → List Entry → ℕ
+lesser key [] = 0
+lesser key (e ∷ rest) = if nat_lt e.key key then suc (lesser key rest) else lesser key rest
 
 -- so many entries have lesser keys than this one, and the others haven't
 pub record IsPlace (key : ℕ) (entries : List Entry) (at : ℕ) : Type 0 where

@@ -1,14 +1,16 @@
 //! The records of a leaf, applied to entries that were copied of the base behind which they stand, the oldest first.
-ghost use Rattle.std.specs.Prelude.{◌≡◌, ℕ, ◌+◌, ◌<◌, ◌≤◌, Option, length, take};
+ghost use Rattle.std.specs.Prelude.{◌≡◌, ℕ, ◌+◌, ◌*◌, ◌<◌, ◌≤◌, Option, length, take};
 ghost use Rattle.blink_batch.specs.{IsAscending, entry};
 ghost use Rattle.blink_page.specs.{PlainPage};
 ghost use Rattle.blink_rows.specs.{records_in, row_in};
-ghost use Rattle.blink_live.specs.Editing.{IsAdded, IsEdited, IsPlace, IsRemoved, IsReplaced, StaysCopied, StaysCopiedWith, pointers_in};
+ghost use Rattle.blink_live.specs.declared.read.TheConstants.{LINE};
+ghost use Rattle.blink_live.specs.Editing.{IsAdded, IsEdited, IsPlace, IsRemoved, IsReplaced, StaysCopied, StaysCopiedWith, lesser, pointers_in};
 ghost use Rattle.blink_live.specs.Scanning.{IsCopied};
 ghost use Rattle.blink_live.specs.Seats.{IsPassSeat, IsSameSeat, ReadsVersion};
 ghost use Rattle.blink_live.specs.Words.{IsRowNumber};
 
 use crate::live::Live;
+use crate::read::LINE;
 use crate::scan::KeyRange;
 use crate::view::View;
 use atomic_table::Seat;
@@ -159,14 +161,53 @@ pub(crate) fn set_entry(place: &mut Entry, key: u64, pointer: u64)
     place.pointer = pointer;
 }
 
-// The number of entries whose keys are below this one. It has no branch on a key, since none could be foretold.
+// The number of entries whose keys are below this one. It compares the last key of each line of the cache, and then four keys, all without a
+// branch on a key, since none could be foretold.
 fn place_in(entries: &[Entry], key: u64) -> usize
     ensures place { IsAscending entries.now → IsPlace key entries.now result }
     ensures within { result ≤ length entries.now }
 {
-    let mut place = 0;
-    for entry in entries {
-        place += usize::from(entry.key < key);
+    if entries.len() < LINE {
+        return count_below(entries, key);
     }
-    place
+    let first = (LINE * lines_below(entries, key)).min(entries.len() - LINE);
+    first
+        + one_if_below(entries, first, key)
+        + one_if_below(entries, first + 1, key)
+        + one_if_below(entries, first + 2, key)
+        + one_if_below(entries, first + 3, key)
+}
+
+// The number of whole lines before that place.
+fn lines_below(entries: &[Entry], key: u64) -> usize
+    ensures few { LINE * result ≤ length entries.now }
+    ensures lines { IsAscending entries.now → (LINE * result ≤ lesser key entries.now)
+        × (lesser key entries.now < LINE * result + LINE) }
+{
+    let mut lines = 0;
+    for line in 0..entries.len() / LINE {
+        lines += one_if_below(entries, LINE * line + LINE - 1, key);
+    }
+    lines
+}
+
+// 1 if the key of the entry at this place is below `key`, and 0 if not.
+fn one_if_below(entries: &[Entry], place: usize, key: u64) -> usize
+    requires place { place < length entries.now }
+    ensures at_most { result ≤ 1 }
+    ensures one { IsAscending entries.now → (place < lesser key entries.now → result ≡ 1)
+        × (lesser key entries.now ≤ place → result ≡ 0) }
+{
+    usize::from(entries[place].key < key)
+}
+
+// The number of entries whose keys are below this one, by one after another.
+fn count_below(entries: &[Entry], key: u64) -> usize
+    ensures count { result ≡ lesser key entries.now }
+{
+    let mut count = 0;
+    for entry in entries {
+        count += usize::from(entry.key < key);
+    }
+    count
 }

@@ -28,8 +28,8 @@ use blink_rows::layout::{COUNT, ENTRY_WORDS, FLOOR, HAS_FLOOR, HIGH_KEY, LEVEL, 
 use blink_rows::{HEAD_WORDS, ROW_WORDS, Record, records_in, row_in, row_prime};
 use std::marker::Brand;
 
-// The number of entries in a line of the processor's cache.
-const LINE: usize = 4;
+/// The number of entries in a line of the processor's cache.
+pub(crate) const LINE: usize = 4;
 
 impl Live {
     // Begins an operation, and returns the root's number and level.

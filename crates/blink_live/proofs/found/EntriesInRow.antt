@@ -1,11 +1,13 @@
 -- The words of a page's row tell its entries, and where a search among them ends.
-use Rattle.std.proofs.Common.{◌≡◌, ℕ, zero, suc, ◌+◌, ◌*◌, ◌<◌, ◌≤◌, List, [], ◌∷◌, length, get_or, refl, ap, ◌∙◌, arith}
+use Rattle.std.proofs.Common.{◌≡◌, ℕ, zero, suc, ◌+◌, ◌*◌, ◌<◌, ◌≤◌, Some, List, [], ◌∷◌, length, get_or, refl, ap, ◌∙◌, arith}
 use Rattle.std.proofs.lemmas.Bool.Decides.{nat_tests}
 use Rattle.std.specs.Prelude.{slice_index}
 use Rattle.blink_page.specs.{PlainPage, IsRising, place_of}
 use Rattle.blink_rows.specs.{flat, page_words}
 use Rattle.blink_rows.specs.declared.limits.TheConstants.{HEAD_WORDS}
 use Rattle.blink_rows.proofs.Offered.{length-page_words}
+use Rattle.blink_live.specs.Seats.{ReadsPage}
+use Rattle.blink_live.specs.Views.{SeatState}
 
 flat_key : (entries : List (ℕ × ℕ)) (j : ℕ) → get_or (flat entries) (2 * j) 0 ≡ (get_or entries j (0, 0)).0
 flat_key [] j = refl
@@ -34,6 +36,11 @@ key_inside page j inside = omega (arith, inside, length-page_words page)
 
 pub value_inside : (page : PlainPage) (j : ℕ) → j < length page.entries → HEAD_WORDS + 2 * j + 1 < length (page_words page)
 value_inside page j inside = omega (arith, inside, length-page_words page)
+
+-- a word that a seat loads after others is one of the row's
+pub its_word : {me now : SeatState} {row : ℕ} (leaf : PlainPage) (word place : ℕ) → now ≡ me → ReadsPage me row leaf → ((content : List ℕ) → now.0.reads ≡ Some (row, content) → place < length content → word ≡ slice_index content place) → place < length (page_words leaf)
+    → word ≡ slice_index (page_words leaf) place
+its_word leaf word place same reads loads inside = loads (page_words leaf) (ap (λ (x : SeatState). x.0.reads) same ∙ reads.reads) inside
 
 -- a search goes on behind an entry of a lesser key
 pub goes_on_behind : (key : ℕ) (entries : List (ℕ × ℕ)) (j : ℕ) → j ≤ place_of key entries → j < length entries → (get_or entries j (0, 0)).0 < key → suc j ≤ place_of key entries

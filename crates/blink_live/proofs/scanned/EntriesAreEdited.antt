@@ -9,7 +9,7 @@ use Rattle.std.specs.Prelude.{set, nat_lt, ◌==◌, if◌then◌else◌}
 use Rattle.std.specs.List.{AllByRecursion}
 use Rattle.blink_batch.specs.declared.Entry.{Entry}
 use Rattle.blink_batch.specs.{IsAscending, entry, pointer_of}
-use Rattle.blink_live.specs.Editing.{IsAdded, IsPlace, IsRemoved, IsReplaced}
+use Rattle.blink_live.specs.Editing.{IsAdded, IsPlace, IsRemoved, IsReplaced, lesser}
 use Rattle.blink_live.specs.Scanning.{IsCopied}
 
 abbrev pub no_entry : Entry
@@ -23,11 +23,6 @@ keys_too P Q more [] all = tt
 keys_too P Q more (e ∷ rest) all = (more e.key all.0, keys_too P Q more rest all.1)
 
 -- ---- the place of a key
-
--- how many entries have lesser keys
-abbrev pub lesser : ℕ → List Entry → ℕ
-lesser key [] = 0
-lesser key (e ∷ rest) = if nat_lt e.key key then suc (lesser key rest) else lesser key rest
 
 module _ (key : ℕ) where
   one_counted : (e : Entry) (rest : List Entry) → lesser key (e ∷ rest) ≡ bool_byte (nat_lt e.key key) + lesser key rest
@@ -65,6 +60,11 @@ module _ (key : ℕ) where
       let not : nat_lt e.key key ≡ false = grind (arith, nat_tests, here) in
       ap (λ (t : Bool). if t then suc (lesser key rest) else lesser key rest) not ∙ none_lesser rest all.1
 
+  rest_none : (e : Entry) (rest : List Entry) → nat_lt e.key key ≡ false → AllKeys (λ (k : ℕ). e.key < k) rest → lesser key rest ≡ 0
+  rest_none e rest not above =
+      let here : key ≤ e.key = grind (arith, nat_tests, not) in
+      none_lesser rest (keys_too (λ (k : ℕ). e.key < k) (λ (k : ℕ). key ≤ k) (λ k less. omega (arith, here, less)) rest above)
+
   -- since the keys ascend, these are the first
   pub lesser_is_place : (es : List Entry) → IsAscending es → IsPlace key es (lesser key es)
   lesser_is_place [] ascends = record { before = tt; behind = tt }
@@ -75,6 +75,28 @@ module _ (key : ℕ) where
         let all = keys_too (λ (k : ℕ). e.key < k) (λ (k : ℕ). key ≤ k) (λ k above. omega (arith, here, above)) rest ascends.0 in
         subst (IsPlace key (e ∷ rest)) (sym (none_lesser rest all)) (record { before = tt; behind = (here, all) })
   ]) refl
+
+  -- and the test of a key says whether it is one of these
+  pub tests_place : (es : List Entry) (at : ℕ) → IsAscending es → at < length es
+      → (at < lesser key es → nat_lt (get_or es at no_entry).key key ≡ true) × (lesser key es ≤ at → nat_lt (get_or es at no_entry).key key ≡ false)
+  tests_place [] at ascends inside = absurd (omega (arith, inside))
+  tests_place (e ∷ rest) zero ascends inside = (elim (nat_lt e.key key) as (λ t. nat_lt e.key key ≡ t
+      → (0 < (if t then suc (lesser key rest) else lesser key rest) → nat_lt e.key key ≡ true) × ((if t then suc (lesser key rest) else lesser key rest) ≤ 0 → nat_lt e.key key ≡ false)) [
+        | true ↦ λ less. (λ before. less, λ behind. absurd (omega (arith, behind)))
+        | false ↦ λ not.
+            let none = rest_none e rest not ascends.0 in
+            (λ before. absurd (omega (arith, before, none)), λ behind. not)
+      ]) refl
+  tests_place (e ∷ rest) (suc n) ascends inside =
+      let further = tests_place rest n ascends.1 (omega (arith, inside)) in
+      (elim (nat_lt e.key key) as (λ t. nat_lt e.key key ≡ t
+      → (suc n < (if t then suc (lesser key rest) else lesser key rest) → nat_lt (get_or rest n no_entry).key key ≡ true)
+      × ((if t then suc (lesser key rest) else lesser key rest) ≤ suc n → nat_lt (get_or rest n no_entry).key key ≡ false)) [
+        | true ↦ λ less. (λ before. further.0 (omega (arith, before)), λ behind. further.1 (omega (arith, behind)))
+        | false ↦ λ not.
+            let none = rest_none e rest not ascends.0 in
+            (λ before. absurd (omega (arith, before, none)), λ behind. further.1 (omega (arith, none)))
+      ]) refl
 
 -- ---- what entries with lesser keys and others behind them say of keys
 

@@ -1,13 +1,8 @@
-use Rattle.std.proofs.Common.{◌≡◌, ℕ, ◌+◌, ◌<◌, Some, List, length, refl, ap, ◌∙◌, subst, arith}
-use Rattle.std.specs.Prelude.{slice_index}
+use Rattle.std.proofs.Common.{◌≡◌, ℕ, ◌+◌, ◌<◌, List, length, refl, ◌∙◌, subst, arith}
 use Rattle.blink_batch.specs.declared.Entry.{Entry}
-use Rattle.blink_page.specs.{PlainPage}
-use Rattle.blink_rows.specs.{page_words}
 use Rattle.blink_live.specs.Scanning.{IsCopied, IsFilled}
-use Rattle.blink_live.specs.Seats.{ReadsPage}
-use Rattle.blink_live.specs.Views.{SeatState}
 use Rattle.blink_live.proofs.found.FindsOfSeveral.{same_seat}
-use Rattle.blink_live.proofs.found.EntriesInRow.{key_inside, key_word, value_inside, value_word}
+use Rattle.blink_live.proofs.found.EntriesInRow.{its_word, key_inside, key_word, value_inside, value_word}
 use Rattle.blink_live.proofs.scanned.LeavesAreCopied.{copied_none, ends_with_leaf, whole_more}
 use Rattle.blink_live.proofs.live.Live.copy_all.Goals as goal
 
@@ -25,11 +20,6 @@ loop-place-init c = record {
   same = (λ i. c.args.seat.now.table_id, λ i. c.args.seat.now.id, λ i. c.args.seat.now.me);
   copied = λ row leaf start reads count from begins. copied_none from leaf.high leaf.entries c.args.into.now;
 }
-
--- a word that is loaded is one of the row's
-its_word : {me now : SeatState} {row : ℕ} (leaf : PlainPage) (word place : ℕ) → now ≡ me → ReadsPage me row leaf → ((content : List ℕ) → now.0.reads ≡ Some (row, content) → place < length content → word ≡ slice_index content place) → place < length (page_words leaf)
-    → word ≡ slice_index (page_words leaf) place
-its_word leaf word place same reads loads inside = loads (page_words leaf) (ap (λ (x : SeatState). x.0.reads) same ∙ reads.reads) inside
 
 pub loop-place-preserved : goal.loop-place-preserved
 loop-place-preserved c =

@@ -9,7 +9,7 @@ use Rattle.blink_live.specs.Seats.{ReadsPage}
 use Rattle.blink_live.specs.Views.{SeatState}
 use Rattle.blink_live.specs.Editing.{pointers_in}
 use Rattle.blink_live.proofs.found.FindsOfSeveral.{same_seat}
-use Rattle.blink_live.proofs.found.EntriesInRow.{key_inside, key_word, value_inside, value_word}
+use Rattle.blink_live.proofs.found.EntriesInRow.{its_word, key_inside, key_word, value_inside, value_word}
 use Rattle.blink_live.proofs.scanned.LeavesAreCopied.{HasCopied, copied_more, copied_none, copied_past, ends_at_hi, ends_at_high, ends_at_place, ends_with_leaf, place_is_behind, place_is_within}
 use Rattle.blink_live.proofs.live.Live.copy_part.Goals.{then-key-from+else-filled-into, else-key-from}
 use Rattle.blink_live.proofs.live.Live.copy_part.Goals as goal
@@ -33,11 +33,6 @@ loop-place-init c = record {
   few = omega arith;
   copied = λ leaf reads. copied_none c.args.from c.args.hi leaf.entries c.args.into.now;
 }
-
--- a word that is loaded after others is one of the row's
-its_word : {me now : SeatState} {row : ℕ} (leaf : PlainPage) (word place : ℕ) → now ≡ me → ReadsPage me row leaf → ((content : List ℕ) → now.0.reads ≡ Some (row, content) → place < length content → word ≡ slice_index content place) → place < length (page_words leaf)
-    → word ≡ slice_index (page_words leaf) place
-its_word leaf word place same reads loads inside = loads (page_words leaf) (ap (λ (x : SeatState). x.0.reads) same ∙ reads.reads) inside
 
 pub loop-place-preserved : goal.loop-place-preserved
 loop-place-preserved c =

@@ -1,12 +1,11 @@
-use Rattle.std.proofs.Common.{◌≡◌, ℕ, suc, ◌+◌, ◌-◌, ◌<◌, Option, Some, List, length, drop, refl, sym, ap, ◌∙◌, subst, arith}
+use Rattle.std.proofs.Common.{◌≡◌, ℕ, suc, ◌+◌, ◌-◌, ◌<◌, Option, length, drop, refl, sym, ◌∙◌, subst, arith}
 use Rattle.std.proofs.lemmas.List.{length-reverse}
-use Rattle.std.specs.Prelude.{slice_index}
 use Rattle.blink_page.specs.{PlainPage}
 use Rattle.blink_rows.specs.{page_words}
 use Rattle.blink_live.specs.Seats.{ReadsPage}
 use Rattle.blink_live.specs.Views.{SeatState, known_of}
 use Rattle.blink_live.proofs.found.FindsOfSeveral.{same_seat}
-use Rattle.blink_live.proofs.found.EntriesInRow.{key_inside, key_word, value_inside, value_word}
+use Rattle.blink_live.proofs.found.EntriesInRow.{its_word, key_inside, key_word, value_inside, value_word}
 use Rattle.blink_live.proofs.scanned.EntriesBetween.{between}
 use Rattle.blink_live.proofs.scanned.LeavesAreCopiedBack.{copied_more_back, copied_none_back, copied_past_back, ends_at_floor, ends_at_lo, ends_at_place_back, floor_is_before, place_is_before}
 use Rattle.blink_live.proofs.live.Live.copy_row_back.Goals as goal
@@ -31,11 +30,6 @@ loop-place-init c =
       inside = λ leaf reads. let long = count leaf reads in omega (arith, long);
       copied = λ leaf reads. copied_none_back c.args.lo c.args.from c.load_word-count.result leaf.entries c.args.into.now (count leaf reads);
     }
-
--- a word that is loaded after others is one of the row's
-its_word : {me now : SeatState} {row : ℕ} (leaf : PlainPage) (word place : ℕ) → now ≡ me → ReadsPage me row leaf → ((content : List ℕ) → now.0.reads ≡ Some (row, content) → place < length content → word ≡ slice_index content place) → place < length (page_words leaf)
-    → word ≡ slice_index (page_words leaf) place
-its_word leaf word place same reads loads inside = loads (page_words leaf) (ap (λ (x : SeatState). x.0.reads) same ∙ reads.reads) inside
 
 -- and so is the floor
 its_floor : (now me : SeatState) (row : ℕ) (leaf : PlainPage) (floor : Option ℕ) → now ≡ me → ReadsPage me row leaf → (ReadsPage now row leaf → floor ≡ leaf.floor) → floor ≡ leaf.floor
