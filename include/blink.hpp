@@ -363,6 +363,14 @@ public:
     std::vector<Entry> scan_back(Key lo, Key hi) {
         return detail::scanned_back(&handle_, [](auto... all) { return blink_session_scan_back_wait(all...); }, lo, hi);
     }
+    // The first n entries with keys from lo on, or all of these if they are fewer. No others are read.
+    std::vector<Entry> page(Key lo, std::uint64_t n) {
+        return detail::scanned(&handle_, [](auto... all) { return blink_session_scan_wait(all...); }, lo, detail::no_end, n);
+    }
+    // The last n entries with keys up to hi, the greatest first, in the same way.
+    std::vector<Entry> page_back(Key hi, std::uint64_t n) {
+        return detail::scanned_back(&handle_, [](auto... all) { return blink_session_scan_back_wait(all...); }, 0, hi, n);
+    }
     std::optional<std::vector<Entry>> snapshot(Key lo, Key hi, std::uint32_t tries) {
         return detail::snapshot(&handle_, [](auto... all) { return blink_session_snapshot_wait(all...); }, lo, hi, tries);
     }
@@ -475,6 +483,14 @@ public:
     // The same from the greatest key down.
     std::vector<Entry> scan_back(Key lo, Key hi) {
         return detail::scanned_back(&handle_, [](auto... all) { return blink_pass_scan_back(all...); }, lo, hi);
+    }
+    // The first n entries with keys from lo on, or all of these if they are fewer. No others are read.
+    std::vector<Entry> page(Key lo, std::uint64_t n) {
+        return detail::scanned(&handle_, [](auto... all) { return blink_pass_scan(all...); }, lo, detail::no_end, n);
+    }
+    // The last n entries with keys up to hi, the greatest first, in the same way.
+    std::vector<Entry> page_back(Key hi, std::uint64_t n) {
+        return detail::scanned_back(&handle_, [](auto... all) { return blink_pass_scan_back(all...); }, 0, hi, n);
     }
     std::optional<std::vector<Entry>> snapshot(Key lo, Key hi, std::uint32_t tries) {
         return detail::snapshot(&handle_, [](auto... all) { return blink_pass_snapshot(all...); }, lo, hi, tries);

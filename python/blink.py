@@ -493,6 +493,14 @@ class _Seat(_Owner, _Updates):
         """The same from the greatest key down."""
         return self._scan_back(_number(lo), _number(hi))
 
+    def page(self, lo, n):
+        """The first n entries with keys from lo on, or all of these if they are fewer. No others are read."""
+        return self._scan(_number(lo), _MOST, _number(n))
+
+    def page_back(self, hi, n):
+        """The last n entries with keys up to hi, the greatest first, in the same way."""
+        return self._scan_back(0, _number(hi), _number(n))
+
     def snapshot(self, lo, hi, tries=100):
         """The same as they all were at one time; None where others changed the range at each try."""
         places, lo, hi, tries = 256, _number(lo), _number(hi), _number(tries, 32)

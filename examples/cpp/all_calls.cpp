@@ -106,6 +106,8 @@ static void shares_a_map() {
     CHECK(other.scan_back(0, 1000).size() == KEYS && other.scan_back(0, 6)[0].key == 6 && other.scan_back(200, 300).empty());
     for (std::uint64_t key = 1000; key < 2000; key++) CHECK(one.insert(key, key).kind == BLINK_INSERTED);
     CHECK(other.scan_back(0, 5000).size() == KEYS + 1000 && other.scan_back(0, 5000)[999].key == 1000);
+    CHECK(other.page(1000, 600).size() == 600 && other.page(1000, 600)[599].key == 1599 && other.page(0, 0).empty());
+    CHECK(other.page_back(1001, 2)[1].key == 1000 && other.page_back(5000, 5000).size() == KEYS + 1000);
     CHECK(other.snapshot(0, 5000, 10)->size() == KEYS + 1000 && !other.snapshot(0, 1, 0) && other.scan(0, 5000).size() == KEYS + 1000);
     CHECK(one.reserve().pages > 0 && map.room().rows > 0);
     blink::Map apart;
@@ -194,6 +196,7 @@ static void shares_a_table() {
     odd.tell(even);
     CHECK(even.find(2) == 20u && even.glance(3) == 30u && even.scan(0, 5000).size() == 2000 && even.snapshot(1, 2, 1)->size() == 2);
     CHECK(even.scan_back(0, 5000).size() == 2000 && even.scan_back(0, 3)[0].key == 3);
+    CHECK(even.page(1, 2)[1].key == 2 && even.page_back(3, 1)[0].key == 3);
     CHECK(is(even.replace(2, 21), BLINK_REPLACED, 20) && is(even.exchange(2, 20, 22), BLINK_EXISTS, 21));
     CHECK(is(even.remove_exact(2, 21), BLINK_REMOVED, 21) && is(even.remove(4), BLINK_REMOVED, 40) && !even.find(4));
     CHECK(refused(BLINK_TRANSFER_NOT_YOURS, [&] { even.transfer(odd, {6, 7}); }));

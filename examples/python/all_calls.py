@@ -157,6 +157,8 @@ def shares_a_map():
         one.insert(key, key)
     assert len(other.snapshot(0, MOST)) == 1010 and other.snapshot(0, 1, tries=0) is None and len(other.scan(1500, 1999)) == 500
     assert len(other.scan_back(0, MOST)) == 1010 and other.scan_back(0, 1001)[:2] == [(1001, 1001), (1000, 1000)]
+    assert other.page(1000, 2) == [(1000, 1000), (1001, 1001)] and len(other.page(0, 600)) == 600 and other.page(0, 0) == []
+    assert other.page_back(1001, 2) == [(1001, 1001), (1000, 1000)] and len(other.page_back(MOST, 2000)) == 1010
     assert one.reserve().pages > 0 and shared.room()[1] > 0
     more = [shared.join() for _ in range(6)]
     assert refuses(blink.Error, shared.join).name == "NO_SESSION"
@@ -245,6 +247,7 @@ def shares_a_table():
     odd.tell(even)
     assert even.find(2) == 20 and even.glance(3) == 30 and len(even.scan(0, MOST)) == 200 and len(even.snapshot(1, 2)) == 2
     assert len(even.scan_back(0, MOST)) == 200 and even.scan_back(0, 3)[0] == (3, 30)
+    assert even.page_back(3, 1) == [(3, 30)] and even.page(3, 1) == [(3, 30)] and len(even.page(0, 1000)) == 200
     assert even.replace(2, 21) == (REPLACED, 20) and even.exchange(2, 20, 22) == (EXISTS, 21)
     assert even.remove_exact(2, 21) == (REMOVED, 21) and even.remove(4) == (REMOVED, 40) and even.find(4) is None
     assert refuses(blink.Error, even.transfer, odd, [6, 7]).key == 7

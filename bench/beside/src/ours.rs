@@ -95,7 +95,7 @@ impl Handle for Any {
         self.0.glance(key)
     }
     fn scan(&mut self, from: u64, count: usize) -> u64 {
-        sum_of_entries(self.0.range(from..).take(count))
+        sum_of_entries(self.0.range(from..).limit(count))
     }
 }
 
@@ -211,7 +211,7 @@ impl Handle for Session {
         Session::replace(self, key, pointer).ok()?.pointer()
     }
     fn scan(&mut self, from: u64, count: usize) -> u64 {
-        sum_of_entries(self.range(from..).take(count))
+        sum_of_entries(self.range(from..).limit(count))
     }
 }
 

@@ -3,6 +3,7 @@
 use crate::workload::{Keys, Random};
 use blink::{Index, Map, Pass, Room, Session, Table};
 use std::collections::BTreeMap;
+use std::hint::black_box;
 use std::sync::atomic::{AtomicBool, Ordering};
 use std::sync::{Barrier, RwLock};
 use std::thread;
@@ -231,6 +232,18 @@ fn changes_without_room(index: &Index, keys: &[u64], threads: usize) {
     println!("a replacement in a map that was told no room, {threads} threads\t{replacement:.1}");
 }
 
+// Times looks at the neighbours of keys.
+fn neighbours(map: &Map, keys: &[u64], threads: usize) {
+    let look = |of: fn(&mut Session, u64) -> Option<(u64, u64)>| {
+        timed(sessions(map, threads), CALLS, |mut session, thread| {
+            let mut random = Random(thread);
+            (0..CALLS / threads).for_each(|_| _ = black_box(of(&mut session, keys[random.below(keys.len())])));
+        })
+    };
+    println!("the entry behind a key, {threads} threads\t{:.1}", look(Session::next));
+    println!("the entry before a key, {threads} threads\t{:.1}", look(Session::prev));
+}
+
 /// Times, once each, what a map's sessions do. Two libraries are compared by two programs, which `bench/changes.sh` runs by turns.
 pub fn changes() {
     let keys = Keys::random(40_000, 0).present;
@@ -264,6 +277,7 @@ pub fn changes() {
             scans(&sorted, thread, SCANS / threads, |to| sum(session.range(..=to).rev()));
         });
         println!("the same backwards, {threads} threads\t{back:.2}");
+        neighbours(&map, &keys, threads);
         let empty = Map::open_with_room(&Index::new(32).expect("an index"), room(20_000)).expect("a map");
         let insertion = timed(sessions_of(&empty), keys.len(), |mut session, thread| {
             own(thread).for_each(|key| _ = session.insert(key, !key).expect("room"));

@@ -43,6 +43,7 @@
 //! `first_key_value`, `last_key_value` | `first`, `last`
 //! `range(..key).next_back()`, `range(key..).next()` | `prev`, `at_least`
 //! `range(..).rev()` | the same
+//! `range(key..).take(n)` | the same; of a session `range(key..).limit(n)`, which reads no more than these entries
 //! `entry` | `update`
 //! `retain(keeps)` | `retain(.., keeps)`, which returns how many entries it took
 //! `into_iter` | `iter`, or `for entry in &index`; there is no iterator that owns the index
@@ -81,7 +82,7 @@ pub use guards::{Guard, Guards, Held, Noted};
 pub use index::{Applied, Index};
 pub use map::{Left, Map, Room, Unclosed};
 pub use operation::{Answer, Op};
-pub use range::LiveRange;
+pub use range::{Limit, LiveRange};
 pub use read::Range;
 pub use reader::Reader;
 pub use session::{Holding, Reserve, Session};

@@ -52,6 +52,15 @@ pub(crate) unsafe fn take_out(handle: *mut Handle, call: ScanCall, (lo, hi): (u6
     (scanned.filled as usize, (scanned.more == 1).then_some(scanned.next))
 }
 
+// The first entry that the call reports of a range, if there is one: that of the least key, or of the greatest by a scan downwards. It has one
+// place, since a scan for more of them reads on. What the handle is `take_out` says.
+pub(crate) unsafe fn end_of(handle: *mut Handle, call: ScanCall, range: &impl RangeBounds<u64>) -> Option<(u64, u64)> {
+    let mut place = [RawEntry::NONE];
+    // SAFETY: as the caller says.
+    let (filled, _) = unsafe { take_out(handle, call, first_and_last(range)?, &mut place) };
+    (filled == 1).then(|| place[0].into())
+}
+
 // The places that a session or a pass has for the parts of its ranges, for those from the front and for those from the end. They are there for
 // the first part, and stay for the next range.
 pub(crate) struct Places {
@@ -82,12 +91,12 @@ impl<'a> End<'a> {
         End { places, part: 0, entries: [].iter() }
     }
 
-    // Takes another part out, once all entries of the last one are given, and returns the key from which the next one goes on, if there is more.
-    // What the handle is `take_out` says.
+    // Takes another part of so many entries out, once all entries of the last one are given, and returns the key from which the next one goes on,
+    // if there is more. What the handle is `take_out` says.
     #[inline]
-    unsafe fn refill(&mut self, handle: *mut Handle, call: ScanCall, keys: (u64, u64)) -> Option<u64> {
+    unsafe fn refill(&mut self, handle: *mut Handle, call: ScanCall, keys: (u64, u64), part: usize) -> Option<u64> {
         // SAFETY: as the caller says.
-        let (part, filled, next) = unsafe { refill(handle, call, keys, self.places, self.part) };
+        let (part, filled, next) = unsafe { refill(handle, call, keys, self.places, part) };
         self.part = part;
         // SAFETY: the places are borrowed as long as the range is. So many have entries, and no place is written before these are given.
         self.entries = unsafe { slice::from_raw_parts(self.places.as_ptr(), filled) }.iter();
@@ -96,9 +105,14 @@ impl<'a> End<'a> {
 }
 
 // Fills the places with another part, and returns how many entries it was asked for, how many it has, and the key from which the next one goes
-// on. Where memory for more is refused, the part is as short as the first. What the handle is `take_out` says.
-unsafe fn refill(handle: *mut Handle, call: ScanCall, keys: (u64, u64), places: &mut Vec<RawEntry>, last: usize) -> (usize, usize, Option<u64>) {
-    let mut part = part_behind(last);
+// on. Where memory for so many is refused, the part is as short as a first one. What the handle is `take_out` says.
+unsafe fn refill(
+    handle: *mut Handle,
+    call: ScanCall,
+    keys: (u64, u64),
+    places: &mut Vec<RawEntry>,
+    mut part: usize,
+) -> (usize, usize, Option<u64>) {
     if places.len() < part && resize(places, part, RawEntry::NONE).is_err() {
         part = FIRST_PART;
     }
@@ -147,7 +161,8 @@ pub(crate) fn snapshot(handle: &mut Handle, call: SnapshotCall, range: &impl Ran
 ///
 /// From each end it takes the entries out in parts: 16 first, which takes no memory, then twice as many each time, up to 256, as long as
 /// memory for them is given. The session or the pass keeps that for its next range, 4 KB at most for each end. A part is read when it is asked
-/// for. Backwards each leaf takes a descent of its own.
+/// for, so what a loop doesn't come to is read in vain, up to as many entries as it came to: [`LiveRange::limit`] reads none of these. Backwards
+/// each leaf takes a descent of its own.
 #[must_use = "a range is read as it is iterated over"]
 pub struct LiveRange<'a> {
     handle: &'a mut Handle,
@@ -172,6 +187,53 @@ impl<'a> LiveRange<'a> {
         let Places { front, back } = places;
         LiveRange { handle, scan, scan_back, range: first_and_last(range), front: End::new(front), back: End::new(back) }
     }
+
+    /// At most so many entries of the range, as `take` gives them, but by fewer calls, and none beyond them is read: a page of a list, for
+    /// example. From the range's other end they are the last ones.
+    ///
+    /// ```
+    /// use blink::{Index, Map};
+    ///
+    /// let map = Map::open(&Index::from_entries(8, [(1, 10), (3, 30), (5, 50)])?)?;
+    /// let mut session = map.session()?;
+    /// assert_eq!(session.range(2..).limit(1).collect::<Vec<_>>(), [(3, 30)]);
+    /// assert_eq!(session.range(..).limit(2).rev().collect::<Vec<_>>(), [(5, 50), (3, 30)]);
+    /// # Ok::<(), blink::Error>(())
+    /// ```
+    pub fn limit(self, most: usize) -> Limit<'a> {
+        Limit { range: self, left: most }
+    }
+
+    // The next entry from the front. Where another part is to be taken out, `part` makes its size of that of the last one.
+    #[inline]
+    fn next_by(&mut self, part: impl FnOnce(usize) -> usize) -> Option<(u64, u64)> {
+        if self.front.entries.len() == 0 {
+            if let Some((lo, hi)) = self.range {
+                let part = part(self.front.part);
+                // SAFETY: the handle is full, of what the call takes, and borrowed for writing; no operation is under way.
+                let next = unsafe { self.front.refill(self.handle, self.scan, (lo, hi), part) };
+                self.range = next.map(|next| (next, hi));
+            }
+        }
+        // What the range's end has taken out and not given comes after all others.
+        let entry = self.front.entries.next().or_else(|| self.back.entries.next_back());
+        entry.map(|&entry| entry.into())
+    }
+
+    // The same from the end.
+    #[inline]
+    fn next_back_by(&mut self, part: impl FnOnce(usize) -> usize) -> Option<(u64, u64)> {
+        if self.back.entries.len() == 0 {
+            if let Some((lo, hi)) = self.range {
+                let part = part(self.back.part);
+                // SAFETY: as in `next_by`.
+                let next = unsafe { self.back.refill(self.handle, self.scan_back, (lo, hi), part) };
+                self.range = next.map(|next| (lo, next));
+            }
+        }
+        let entry = self.back.entries.next().or_else(|| self.front.entries.next_back());
+        entry.map(|&entry| entry.into())
+    }
 }
 
 impl Iterator for LiveRange<'_> {
@@ -180,16 +242,7 @@ impl Iterator for LiveRange<'_> {
     // Called once an entry, from another crate.
     #[inline]
     fn next(&mut self) -> Option<(u64, u64)> {
-        if self.front.entries.len() == 0 {
-            if let Some((lo, hi)) = self.range {
-                // SAFETY: the handle is full, of what the call takes, and borrowed for writing; no operation is under way.
-                let next = unsafe { self.front.refill(self.handle, self.scan, (lo, hi)) };
-                self.range = next.map(|next| (next, hi));
-            }
-        }
-        // What the range's end has taken out and not given comes after all others.
-        let entry = self.front.entries.next().or_else(|| self.back.entries.next_back());
-        entry.map(|&entry| entry.into())
+        self.next_by(part_behind)
     }
 
     // At least what was taken out is still to come, and no more once nothing is left to be asked for.
@@ -202,15 +255,7 @@ impl Iterator for LiveRange<'_> {
 impl DoubleEndedIterator for LiveRange<'_> {
     #[inline]
     fn next_back(&mut self) -> Option<(u64, u64)> {
-        if self.back.entries.len() == 0 {
-            if let Some((lo, hi)) = self.range {
-                // SAFETY: as in `next`.
-                let next = unsafe { self.back.refill(self.handle, self.scan_back, (lo, hi)) };
-                self.range = next.map(|next| (lo, next));
-            }
-        }
-        let entry = self.back.entries.next().or_else(|| self.front.entries.next_back());
-        entry.map(|&entry| entry.into())
+        self.next_back_by(part_behind)
     }
 }
 
@@ -221,3 +266,48 @@ impl fmt::Debug for LiveRange<'_> {
         f.debug_struct("LiveRange").field("range", &self.range).finish_non_exhaustive()
     }
 }
+
+/// At most so many entries of a [`LiveRange`], as [`LiveRange::limit`] gives them.
+#[derive(Debug)]
+#[must_use = "a range is read as it is iterated over"]
+pub struct Limit<'a> {
+    range: LiveRange<'a>,
+    // How many entries are still to be given at most.
+    left: usize,
+}
+
+impl Limit<'_> {
+    // Gives one of the entries that are left, by a call that is told how many these are: a part has no others.
+    #[inline]
+    fn one(&mut self, next: impl FnOnce(&mut LiveRange<'_>, usize) -> Option<(u64, u64)>) -> Option<(u64, u64)> {
+        if self.left == 0 {
+            return None;
+        }
+        let entry = next(&mut self.range, self.left.min(MAX_PART));
+        self.left -= 1;
+        entry
+    }
+}
+
+impl Iterator for Limit<'_> {
+    type Item = (u64, u64);
+
+    #[inline]
+    fn next(&mut self) -> Option<(u64, u64)> {
+        self.one(|range, left| range.next_by(|_| left))
+    }
+
+    fn size_hint(&self) -> (usize, Option<usize>) {
+        let (taken, most) = self.range.size_hint();
+        (taken.min(self.left), Some(most.map_or(self.left, |most| most.min(self.left))))
+    }
+}
+
+impl DoubleEndedIterator for Limit<'_> {
+    #[inline]
+    fn next_back(&mut self) -> Option<(u64, u64)> {
+        self.one(|range, left| range.next_back_by(|_| left))
+    }
+}
+
+impl std::iter::FusedIterator for Limit<'_> {}

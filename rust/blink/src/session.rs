@@ -1,7 +1,7 @@
 //! The session of a map.
 
 use crate::dropped::Dropped;
-use crate::range::{snapshot, LiveRange, Places};
+use crate::range::{end_of, snapshot, LiveRange, Places};
 use crate::steps::{begins, Begun};
 use crate::sys::{self, Code, Handle, RawAnswer, RawEntry, RawScanned, RawTaken};
 use crate::waiting::{ended, renewed, TRIES};
@@ -97,17 +97,17 @@ impl Session {
     /// # Ok::<(), blink::Error>(())
     /// ```
     pub fn first(&mut self) -> Option<(u64, u64)> {
-        self.range(..).next()
+        self.least(..)
     }
 
     /// Returns the entry of the least key above this one, in the same way.
     pub fn next(&mut self, key: u64) -> Option<(u64, u64)> {
-        self.range((Bound::Excluded(key), Bound::Unbounded)).next()
+        self.least((Bound::Excluded(key), Bound::Unbounded))
     }
 
     /// Returns the entry of the least key from this one on, in the same way.
     pub fn at_least(&mut self, key: u64) -> Option<(u64, u64)> {
-        self.range(key..).next()
+        self.least(key..)
     }
 
     /// Returns the entry of the greatest key, while other sessions change the map: what a backward scan reports first. Emptied leaves stay in
@@ -126,17 +126,17 @@ impl Session {
     /// # Ok::<(), blink::Error>(())
     /// ```
     pub fn last(&mut self) -> Option<(u64, u64)> {
-        self.range(..).next_back()
+        self.greatest(..)
     }
 
     /// Returns the entry of the greatest key below this one, in the same way.
     pub fn prev(&mut self, key: u64) -> Option<(u64, u64)> {
-        self.range(..key).next_back()
+        self.greatest(..key)
     }
 
     /// Returns the entry of the greatest key up to this one, in the same way.
     pub fn at_most(&mut self, key: u64) -> Option<(u64, u64)> {
-        self.range(..=key).next_back()
+        self.greatest(..=key)
     }
 
     /// Counts the entries whose keys are in the range, by a scan of them: [`LiveRange`] says what it sees of a key that changes meanwhile.
@@ -199,8 +199,9 @@ impl Session {
         let mut taken = 0;
         loop {
             // The scan borrows the session, so some entries are reported before the first of them is taken away.
-            let mut part = [(0, 0); 64];
-            let reported = part.iter_mut().zip(self.range((from, to))).map(|(place, entry)| *place = entry).count();
+            const PART: usize = 64;
+            let mut part = [(0, 0); PART];
+            let reported = part.iter_mut().zip(self.range((from, to)).limit(PART)).map(|(place, entry)| *place = entry).count();
             for &(key, pointer) in &part[..reported] {
                 if !keeps(key, pointer) && self.compare_remove(key, pointer)?.changed() {
                     taken += 1;
@@ -540,6 +541,18 @@ impl Session {
         // SAFETY: the handle is full and this call's own.
         let code = unsafe { sys::blink_session_put(&mut self.handle, key, pointer, tries, &mut answer) };
         begins(self, code, answer)
+    }
+
+    // The entry of the least key in the range, if there is one.
+    fn least(&mut self, range: impl RangeBounds<u64>) -> Option<(u64, u64)> {
+        // SAFETY: the handle is full, a session's, and borrowed for writing; no operation is under way.
+        unsafe { end_of(&mut self.handle, scan, &range) }
+    }
+
+    // The same of the greatest.
+    fn greatest(&mut self, range: impl RangeBounds<u64>) -> Option<(u64, u64)> {
+        // SAFETY: as in `least`.
+        unsafe { end_of(&mut self.handle, scan_back, &range) }
     }
 
     // Begins an operation, and takes its steps to the end.

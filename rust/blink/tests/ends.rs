@@ -27,15 +27,19 @@ fn pair((key, pointer): (&u64, &u64)) -> (u64, u64) {
     (*key, *pointer)
 }
 
-// Takes entries from either end of a range, as the draw says, as many as there are: each comes once, the same as from the plain map.
-fn both_ends(mut given: impl DoubleEndedIterator<Item = (u64, u64)>, plain: &Plain, range: RangeInclusive<u64>, draw: &mut Draw) {
+// Takes entries from either end of a range, as the draw says, as many as there are, or as `most` allows: each comes once, the same as from
+// the plain map.
+fn both_ends(mut given: impl DoubleEndedIterator<Item = (u64, u64)>, plain: &Plain, range: RangeInclusive<u64>, most: usize, draw: &mut Draw) {
     let mut expected = plain.range(range).map(pair);
     // mostly from one end, so that parts of several lengths meet
     let from_front = draw.below(10);
-    loop {
-        let (one, other) = match draw.below(10) < from_front {
-            true => (given.next(), expected.next()),
-            false => (given.next_back(), expected.next_back()),
+    for count in 0.. {
+        let is_front = draw.below(10) < from_front;
+        let one = if is_front { given.next() } else { given.next_back() };
+        let other = match is_front {
+            _ if count == most => None,
+            true => expected.next(),
+            false => expected.next_back(),
         };
         assert_eq!(one, other);
         if one.is_none() {
@@ -75,7 +79,9 @@ fn a_session_reads_from_either_end_as_a_btree_map() {
         ends(&mut session, &plain, draw.below(KEYS));
         if turn % 7 == 0 {
             let range = draw.range(KEYS);
-            both_ends(session.range(range.clone()), &plain, range, &mut draw);
+            both_ends(session.range(range.clone()), &plain, range.clone(), usize::MAX, &mut draw);
+            let most = draw.below(KEYS / 2) as usize;
+            both_ends(session.range(range.clone()).limit(most), &plain, range, most, &mut draw);
         }
         if turn % 501 == 0 {
             assert_eq!(session.pop_last(), Ok(plain.pop_last()));
@@ -94,6 +100,22 @@ fn the_greatest_and_the_least_key_are_at_the_ends() {
     assert_eq!((session.prev(0), session.next(u64::MAX)), (None, None));
     assert_eq!((session.prev(u64::MAX), session.next(0)), (Some((0, 1)), Some((u64::MAX, 2))));
     assert!(session.range(..).rev().eq([(u64::MAX, 2), (0, 1)]));
+}
+
+// A limit is asked for by parts of 256 entries and one of the rest: around the ends of these, as from a `take`.
+#[test]
+fn a_limit_gives_as_many_entries_as_a_take() {
+    let index = Index::from_sorted(8, (0..1000).map(|key| (key, 2 * key))).unwrap();
+    let map = Map::open_fixed(&index, Room { pages: 0, rows: 0, sessions: 1 }).unwrap();
+    let mut session = map.session().unwrap();
+    for most in [0, 1, 2, 16, 17, 255, 256, 257, 512, 513, 799, 800, 801, usize::MAX] {
+        let (first, last) = (100..100 + most.min(800) as u64, 900 - most.min(800) as u64..900);
+        assert!(session.range(100..900).limit(most).eq(first.map(|key| (key, 2 * key))), "{most}");
+        assert!(session.range(100..900).limit(most).rev().eq(last.rev().map(|key| (key, 2 * key))), "{most}");
+    }
+    let mut limit = session.range(..).limit(3);
+    assert_eq!((limit.size_hint(), limit.next(), limit.size_hint()), ((0, Some(3)), Some((0, 0)), (2, Some(2))));
+    assert_eq!((limit.next_back(), limit.next(), limit.next()), (Some((999, 1998)), Some((1, 2)), None));
 }
 
 fn pass_changes(pass: &mut Pass, plain: &mut Plain, draw: &mut Draw, turn: u64) {
@@ -116,7 +138,9 @@ fn a_pass_reads_from_either_end_as_a_btree_map() {
     for turn in 0..2_000 {
         pass_changes(&mut pass, &mut plain, &mut draw, turn);
         let range = draw.range(KEYS);
-        both_ends(pass.range(range.clone()), &plain, range, &mut draw);
+        both_ends(pass.range(range.clone()), &plain, range.clone(), usize::MAX, &mut draw);
+        let most = draw.below(KEYS / 2) as usize;
+        both_ends(pass.range(range.clone()).limit(most), &plain, range, most, &mut draw);
     }
     assert!(pass.range(..).rev().eq(plain.iter().rev().map(pair)));
 }

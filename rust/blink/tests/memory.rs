@@ -61,6 +61,8 @@ fn scans_go_on_by_short_parts() {
     let mut session = map.session().unwrap();
     let count = with_most(300, || session.range(100..900).count());
     assert_eq!(count, 800);
+    let count = with_most(300, || session.range(100..900).limit(500).count());
+    assert_eq!(count, 500);
 }
 
 #[test]
