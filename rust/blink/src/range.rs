@@ -189,7 +189,7 @@ impl<'a> LiveRange<'a> {
     }
 
     /// At most so many entries of the range, as `take` gives them, but by fewer calls, and none beyond them is read: a page of a list, for
-    /// example. From the range's other end they are the last ones.
+    /// example. From the range's other end they are the last ones. For more than 16 it asks for memory, as a longer range does, for 256 at most.
     ///
     /// ```
     /// use blink::{Index, Map};
