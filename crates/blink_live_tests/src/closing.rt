@@ -1,6 +1,6 @@
 //! Tables that close.
 use crate::indexes::Look::Dump;
-use crate::story::{End, Story, play};
+use crate::story::{End, Story, play_all};
 
 // The tree of fourteen keys with its pages numbered level by level.
 pub(crate) const FOURTEEN: &str = "\
@@ -15,13 +15,16 @@ pub(crate) const FOURTEEN: &str = "\
 ";
 
 const UNCHANGED: Story = Story {
+    name: "pages are numbered anew",
     over: (0, 14),
     room: (0, 0),
     acts: &[],
     end: End::Closes(&[Dump(FOURTEEN)]),
 };
 
+const STORIES: [&Story; 1] = [&UNCHANGED];
+
 #[test]
-fn pages_are_numbered_anew(rt: HostRuntime) {
-    play(&rt, rt.alloc(), &UNCHANGED);
+fn tables_that_close(rt: HostRuntime) {
+    play_all(&rt, rt.alloc(), &STORIES);
 }

@@ -1,9 +1,10 @@
 //! Passes that a keeper deals.
 use crate::story::Act::{Deal, RefuseDeal};
-use crate::story::{End, Story, play};
+use crate::story::{End, Story, play_all};
 use blink_live::LiveError;
 
 const TAKEN: Story = Story {
+    name: "a key is dealt once",
     over: (0, 0),
     room: (2, 0),
     acts: &[
@@ -17,12 +18,8 @@ const TAKEN: Story = Story {
     end: End::StaysOpen,
 };
 
-#[test]
-fn a_key_is_dealt_once(rt: HostRuntime) {
-    play(&rt, rt.alloc(), &TAKEN);
-}
-
 const TOO_MANY: Story = Story {
+    name: "no more is dealt than was allowed",
     over: (0, 0),
     room: (2, 0),
     acts: &[
@@ -33,7 +30,9 @@ const TOO_MANY: Story = Story {
     end: End::StaysOpen,
 };
 
+const STORIES: [&Story; 2] = [&TAKEN, &TOO_MANY];
+
 #[test]
-fn no_more_is_dealt_than_was_allowed(rt: HostRuntime) {
-    play(&rt, rt.alloc(), &TOO_MANY);
+fn passes_that_are_dealt(rt: HostRuntime) {
+    play_all(&rt, rt.alloc(), &STORIES);
 }

@@ -3,14 +3,15 @@ use crate::indexes::Look::{Dump, PageCount, Scan};
 use crate::same::{given, same};
 use crate::steps::Step::{Call, Glance};
 use crate::story::Act::{Deal, Run, Take};
-use crate::story::{End, Story, play};
+use crate::story::{End, Story, play_all};
 use crate::works::Work;
 use blink_batch::{Answer, Op};
-use blink_live::PassError;
+use blink_live::{HandError, PassError};
 use std::alloc::Global;
 use std::process::Abort;
 
 const TWO_DELETIONS: Story = Story {
+    name: "each accepted call uses a deletion",
     over: (0, 4),
     room: (0, 2),
     acts: &[
@@ -30,13 +31,9 @@ const TWO_DELETIONS: Story = Story {
     end: End::StaysOpen,
 };
 
-#[test]
-fn each_accepted_call_uses_a_deletion(rt: HostRuntime) {
-    play(&rt, rt.alloc(), &TWO_DELETIONS);
-}
-
 // Each deletion of an expected pointer that is accepted uses a deletion of the pass, whatever it answers.
 const FOUR_EXACT_DELETIONS: Story = Story {
+    name: "an exact deletion answers by what it finds",
     over: (4, 6),
     room: (0, 4),
     acts: &[
@@ -59,15 +56,11 @@ const FOUR_EXACT_DELETIONS: Story = Story {
     end: End::Closes(&[Dump("0 1 - 18446744073709551615 - 6:60\n")]),
 };
 
-#[test]
-fn an_exact_deletion_answers_by_what_it_finds(rt: HostRuntime) {
-    play(&rt, rt.alloc(), &FOUR_EXACT_DELETIONS);
-}
-
 // The tree of four keys without its entries.
 const NONE: &str = "0 1 - 18446744073709551615 -\n";
 
 const ONE_LEAF: Story = Story {
+    name: "two threads empty a leaf",
     over: (0, 4),
     room: (0, 4),
     acts: &[
@@ -87,11 +80,6 @@ const ONE_LEAF: Story = Story {
     end: End::Closes(&[PageCount(1), Dump(NONE)]),
 };
 
-#[test]
-fn two_threads_empty_a_leaf(rt: HostRuntime) {
-    play(&rt, rt.alloc(), &ONE_LEAF);
-}
-
 // The tree of fourteen keys without the entries of three of its leaves, its pages numbered level by level.
 const SIX: &str = "\
 2 8 - 18446744073709551615 - 9:6 18446744073709551615:7
@@ -106,6 +94,7 @@ const SIX: &str = "\
 
 // Three leaves lose all their entries, two of them to three threads at once, and stay where they are.
 const THREE_LEAVES: Story = Story {
+    name: "four threads empty leaves",
     over: (0, 14),
     room: (0, 8),
     acts: &[
@@ -135,11 +124,6 @@ const THREE_LEAVES: Story = Story {
     end: End::Closes(&[Dump(SIX), Scan(3, 7, &[3, 7])]),
 };
 
-#[test]
-fn four_threads_empty_leaves(rt: HostRuntime) {
-    play(&rt, rt.alloc(), &THREE_LEAVES);
-}
-
 fn assert_refusal(rt: &impl Abort, alloc: Global, error: PassError, code: u8, text: &str) {
     same(rt, &error.code(), &code);
     let shown = given(rt, format!(in alloc; "{error}"));
@@ -151,4 +135,18 @@ fn refusals_have_numbers_and_texts(rt: HostRuntime) {
     let alloc = rt.alloc();
     assert_refusal(&rt, alloc, PassError::NotYours, 54, "not yours");
     assert_refusal(&rt, alloc, PassError::Spent, 55, "spent");
+    same(&rt, &HandError::NotYours(7).code(), &58);
+    same(&rt, &HandError::OutOfMemory.code(), &41);
+}
+
+const STORIES: [&Story; 4] = [
+    &TWO_DELETIONS,
+    &FOUR_EXACT_DELETIONS,
+    &ONE_LEAF,
+    &THREE_LEAVES,
+];
+
+#[test]
+fn passes_that_delete(rt: HostRuntime) {
+    play_all(&rt, rt.alloc(), &STORIES);
 }

@@ -2,12 +2,13 @@
 use crate::indexes::Look::Finds;
 use crate::steps::Step::Call;
 use crate::story::Act::{Deal, LoseFirst, Run, Take};
-use crate::story::{End, Story, play};
+use crate::story::{End, Story, play_all};
 use crate::works::Work;
 use blink_batch::{Answer, Op};
 use blink_live::{LiveError, PassError};
 
 const OWN_KEYS_ALONE: Story = Story {
+    name: "a pass finds its own keys alone",
     over: (0, 14),
     room: (0, 0),
     acts: &[
@@ -26,12 +27,8 @@ const OWN_KEYS_ALONE: Story = Story {
     end: End::Closes(&[Finds(&[(9, Some(90)), (2, Some(20))])]),
 };
 
-#[test]
-fn a_pass_finds_its_own_keys_alone(rt: HostRuntime) {
-    play(&rt, rt.alloc(), &OWN_KEYS_ALONE);
-}
-
 const WITHOUT_ITS_PASS: Story = Story {
+    name: "a table without its pass stays unclosed",
     over: (0, 0),
     room: (2, 0),
     acts: &[
@@ -48,12 +45,8 @@ const WITHOUT_ITS_PASS: Story = Story {
     end: End::Refused(LiveError::Missing),
 };
 
-#[test]
-fn a_table_without_its_pass_stays_unclosed(rt: HostRuntime) {
-    play(&rt, rt.alloc(), &WITHOUT_ITS_PASS);
-}
-
 const TWO_FIND: Story = Story {
+    name: "two threads find at once",
     over: (0, 14),
     room: (0, 0),
     acts: &[
@@ -67,7 +60,9 @@ const TWO_FIND: Story = Story {
     end: End::StaysOpen,
 };
 
+const STORIES: [&Story; 3] = [&OWN_KEYS_ALONE, &WITHOUT_ITS_PASS, &TWO_FIND];
+
 #[test]
-fn two_threads_find_at_once(rt: HostRuntime) {
-    play(&rt, rt.alloc(), &TWO_FIND);
+fn passes_that_find(rt: HostRuntime) {
+    play_all(&rt, rt.alloc(), &STORIES);
 }

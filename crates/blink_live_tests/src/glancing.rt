@@ -3,18 +3,18 @@ ghost use Rattle.blink_live.specs.{IsPassOf};
 
 use crate::same::same_for;
 use crate::shared::Meeting::{Hears, Tells};
-use crate::shared::Shared;
 use crate::steps::Step::{self, Call, Glance};
 use crate::steps::look;
-use crate::story::Act::{Deal, LoseFirst, Meet, RefuseDeal, Take};
-use crate::story::{End, Story, play};
-use crate::walks::every;
+use crate::story::Act::{Deal, DealWalks, LoseFirst, Meet, RefuseDeal, Run, Take};
+use crate::story::{End, Story, play_all};
+use crate::walks::Walks;
 use crate::works::Work;
 use blink_batch::{Answer, Op};
 use blink_live::{Live, LiveError, Pass, PassError};
 use std::process::Abort;
 
 const TOLD: Story = Story {
+    name: "tell hands over what was seen",
     over: (0, 0),
     room: (2, 0),
     acts: &[
@@ -30,15 +30,11 @@ const TOLD: Story = Story {
     end: End::Refused(LiveError::Missing),
 };
 
-#[test]
-fn tell_hands_over_what_was_seen(rt: HostRuntime) {
-    play(&rt, rt.alloc(), &TOLD);
-}
-
 // Nobody has the keys 7 and 8.
 const WHAT_IS_KEPT: [Step; 3] = [Glance(5, Some(51)), Glance(7, Some(70)), Glance(8, None)];
 
 const TOLD_ON: Story = Story {
+    name: "tell is transitive",
     over: (6, 7),
     room: (2, 1),
     acts: &[
@@ -65,12 +61,8 @@ const TOLD_ON: Story = Story {
     end: End::StaysOpen,
 };
 
-#[test]
-fn tell_is_transitive(rt: HostRuntime) {
-    play(&rt, rt.alloc(), &TOLD_ON);
-}
-
 const NOT_TOLD: Story = Story {
+    name: "a glance sees without being told",
     over: (0, 0),
     room: (1, 0),
     acts: &[
@@ -82,11 +74,6 @@ const NOT_TOLD: Story = Story {
     ],
     end: End::StaysOpen,
 };
-
-#[test]
-fn a_glance_sees_without_being_told(rt: HostRuntime) {
-    play(&rt, rt.alloc(), &NOT_TOLD);
-}
 
 // Glances the keys 255 to 0 downwards, four times: once a key was there, all below it are, and so each time.
 pub(crate) fn glance_downwards(rt: &impl Abort, live: &Live, pass: &mut Pass)
@@ -107,10 +94,21 @@ pub(crate) fn glance_downwards(rt: &impl Abort, live: &Live, pass: &mut Pass)
     }
 }
 
+const NEVER_UNSEEN: Story = Story {
+    name: "a reader never unsees",
+    over: (0, 0),
+    room: (256, 0),
+    acts: &[
+        DealWalks(Walks::Ascending),
+        Deal(&[], 0, 0),
+        Run(Work::InsertOrGlance),
+    ],
+    end: End::StaysOpen,
+};
+
+const STORIES: [&Story; 4] = [&TOLD, &TOLD_ON, &NOT_TOLD, &NEVER_UNSEEN];
+
 #[test]
-fn a_reader_never_unsees(rt: HostRuntime) {
-    let mut table = Shared::open(&rt, rt.alloc(), (0, 0), (256, 0));
-    table.deal_walk(&rt, &every(1, 0, 256), 256, 0);
-    table.deal(&rt, &[], 0, 0, Ok(()));
-    table.run(&rt, Work::InsertOrGlance);
+fn passes_that_glance(rt: HostRuntime) {
+    play_all(&rt, rt.alloc(), &STORIES);
 }

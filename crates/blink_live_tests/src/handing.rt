@@ -2,22 +2,23 @@
 ghost use Rattle.blink_live.specs.{IsPassOf};
 
 use crate::indexes::Look::Finds;
-use crate::same::same;
 use crate::shared::Meeting::{Gets, Hands};
 use crate::shared::Shared;
 use crate::steps::Step::{self, Call, Glance, GlanceBetween};
 use crate::steps::take;
-use crate::story::Act::{Deal, Meet, Take};
-use crate::story::{End, Story, play};
+use crate::story::Act::{Deal, HandRounds, Meet, Take};
+use crate::story::{End, Story, play_all};
 use crate::walks::key_at;
 use crate::works::{Work, call};
 use blink_batch::{Answer, Op};
 use blink_live::{HandError, Live, Pass, PassError};
 use std::process::Abort;
 use std::sync::Wait;
+use std::thread::Threads;
 
 // The table begins with the keys 1 to 3, each with ten times the key.
 const HANDED: Story = Story {
+    name: "keys change hands with what they map to",
     over: (0, 3),
     room: (2, 3),
     acts: &[
@@ -52,17 +53,13 @@ const HANDED: Story = Story {
     end: End::Closes(&[Finds(&[(1, Some(10)), (2, None), (3, Some(30)), (4, Some(46))])]),
 };
 
-#[test]
-fn keys_change_hands_with_what_they_map_to(rt: HostRuntime) {
-    play(&rt, rt.alloc(), &HANDED);
-}
-
 const STILL_ITS_OWN: [Step; 2] = [
     Call(Op::Find(1), Ok(Answer::Found(10))),
     Call(Op::Find(2), Ok(Answer::Found(20))),
 ];
 
 const REFUSED: Story = Story {
+    name: "a refused list moves no key",
     over: (0, 3),
     room: (0, 0),
     acts: &[
@@ -76,17 +73,6 @@ const REFUSED: Story = Story {
     ],
     end: End::StaysOpen,
 };
-
-#[test]
-fn a_refused_list_moves_no_key(rt: HostRuntime) {
-    play(&rt, rt.alloc(), &REFUSED);
-}
-
-#[test]
-fn codes_of_refused_hands(rt: HostRuntime) {
-    same(&rt, &HandError::NotYours(7).code(), &58);
-    same(&rt, &HandError::OutOfMemory.code(), &41);
-}
 
 // ---- threads that hand keys round
 
@@ -131,18 +117,33 @@ fn pass_round(rt: &impl Abort, table: &mut Shared, round: u64) {
     table.meet(rt, THREADS - 2, Gets(&[key_at(THREADS - 1, round)], Ok(())));
 }
 
-const HANDED_ROUND: End = End::Closes(&[Finds(&[(1, Some(26)), (8, Some(96)), (9, Some(90))])]);
+// Each thread is dealt its key and does its turn, and in each later one of so many rounds it has the next key.
+pub(crate) fn hand_rounds<R: Threads + Wait + Abort + Sync>(
+    rt: &R,
+    table: &mut Shared,
+    rounds: u64,
+) {
+    for place in 0..THREADS {
+        table.deal(rt, &[key_at(place, 0)], 0, 16, Ok(()));
+    }
+    table.run(rt, Work::HandRound(0));
+    for round in 1..rounds {
+        pass_round(rt, table, round - 1);
+        table.run(rt, Work::HandRound(round));
+    }
+}
+
+const HANDED_ROUND: Story = Story {
+    name: "keys are handed round a ring of threads",
+    over: (0, 9),
+    room: (0, 128),
+    acts: &[HandRounds(16)],
+    end: End::Closes(&[Finds(&[(1, Some(26)), (8, Some(96)), (9, Some(90))])]),
+};
+
+const STORIES: [&Story; 3] = [&HANDED, &REFUSED, &HANDED_ROUND];
 
 #[test]
-fn keys_are_handed_round_a_ring_of_threads(rt: HostRuntime) {
-    let mut table = Shared::open(&rt, rt.alloc(), (0, 9), (0, 128));
-    for place in 0..THREADS {
-        table.deal(&rt, &[key_at(place, 0)], 0, 16, Ok(()));
-    }
-    table.run(&rt, Work::HandRound(0));
-    for round in 1..16 {
-        pass_round(&rt, &mut table, round - 1);
-        table.run(&rt, Work::HandRound(round));
-    }
-    table.end(&rt, HANDED_ROUND);
+fn keys_that_change_hands(rt: HostRuntime) {
+    play_all(&rt, rt.alloc(), &STORIES);
 }

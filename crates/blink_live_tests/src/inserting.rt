@@ -1,11 +1,10 @@
 //! Insertions with passes.
 use crate::closing::FOURTEEN;
 use crate::indexes::Look::{Dump, Every, Finds};
-use crate::shared::Shared;
 use crate::steps::Step::Call;
-use crate::story::Act::{Deal, Take};
-use crate::story::{End, Story, play};
-use crate::walks::{eighth, fourth};
+use crate::story::Act::{Deal, DealWalks, Run, Take};
+use crate::story::{End, Story, play_all};
+use crate::walks::Walks;
 use crate::works::Work;
 use blink_batch::{Answer, Op};
 use blink_live::PassError;
@@ -20,6 +19,7 @@ pub(crate) const SPLIT: &str = "\
 ";
 
 const ONE_MORE: Story = Story {
+    name: "a full leaf is split",
     over: (0, 4),
     room: (1, 0),
     acts: &[
@@ -29,12 +29,8 @@ const ONE_MORE: Story = Story {
     end: End::Closes(&[Dump(SPLIT)]),
 };
 
-#[test]
-fn a_full_leaf_is_split(rt: HostRuntime) {
-    play(&rt, rt.alloc(), &ONE_MORE);
-}
-
 const SPENT: Story = Story {
+    name: "a spent pass inserts no more",
     over: (0, 4),
     room: (2, 0),
     acts: &[
@@ -64,12 +60,8 @@ const SPENT: Story = Story {
     end: End::Closes(&[Finds(&[(5, Some(50)), (7, Some(70)), (9, None)])]),
 };
 
-#[test]
-fn a_spent_pass_inserts_no_more(rt: HostRuntime) {
-    play(&rt, rt.alloc(), &SPENT);
-}
-
 const THERE: Story = Story {
+    name: "a key that is there keeps its pointer",
     over: (0, 4),
     room: (1, 0),
     acts: &[
@@ -88,12 +80,8 @@ const THERE: Story = Story {
     end: End::Closes(&[Finds(&[(3, Some(30)), (8, None)])]),
 };
 
-#[test]
-fn a_key_that_is_there_keeps_its_pointer(rt: HostRuntime) {
-    play(&rt, rt.alloc(), &THERE);
-}
-
 const THREE_LEVELS: Story = Story {
+    name: "one pass builds three levels",
     over: (0, 0),
     room: (14, 0),
     acts: &[
@@ -121,38 +109,34 @@ const THREE_LEVELS: Story = Story {
     end: End::Closes(&[Dump(FOURTEEN)]),
 };
 
-#[test]
-fn one_pass_builds_three_levels(rt: HostRuntime) {
-    play(&rt, rt.alloc(), &THREE_LEVELS);
-}
-
 // ---- several threads
 
-const ALL: End = End::Closes(&[Every(1, 0, 1_024)]);
+const NEIGHBOURS: Story = Story {
+    name: "four threads insert neighbours",
+    over: (0, 0),
+    room: (1_024, 0),
+    acts: &[DealWalks(Walks::Fourths), Run(Work::InsertFourth)],
+    end: End::Closes(&[Every(1, 0, 1_024)]),
+};
+
+const HALF_DELETE: Story = Story {
+    name: "eight threads insert and half of them delete",
+    over: (0, 0),
+    room: (512, 256),
+    acts: &[DealWalks(Walks::Eighths), Run(Work::ChangeEighth)],
+    end: End::Closes(&[Every(2, 0, 256)]),
+};
+
+const STORIES: [&Story; 6] = [
+    &ONE_MORE,
+    &SPENT,
+    &THERE,
+    &THREE_LEVELS,
+    &NEIGHBOURS,
+    &HALF_DELETE,
+];
 
 #[test]
-fn four_threads_insert_neighbours(rt: HostRuntime) {
-    let mut table = Shared::open(&rt, rt.alloc(), (0, 0), (1_024, 0));
-    for thread in 0..4 {
-        table.deal_walk(&rt, &fourth(thread), 256, 0);
-    }
-    table.run(&rt, Work::InsertFourth);
-    table.end(&rt, ALL);
-}
-
-const EVEN: End = End::Closes(&[Every(2, 0, 256)]);
-
-#[test]
-fn eight_threads_insert_and_half_of_them_delete(rt: HostRuntime) {
-    let mut table = Shared::open(&rt, rt.alloc(), (0, 0), (512, 256));
-    for thread in 0..8 {
-        table.deal_walk(
-            &rt,
-            &eighth(thread),
-            64,
-            if thread % 2 == 1 { 64 } else { 0 },
-        );
-    }
-    table.run(&rt, Work::ChangeEighth);
-    table.end(&rt, EVEN);
+fn passes_that_insert(rt: HostRuntime) {
+    play_all(&rt, rt.alloc(), &STORIES);
 }

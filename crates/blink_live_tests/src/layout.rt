@@ -1,11 +1,9 @@
 //! The words of tables, and what a keeper and a pass have, worked by hand.
 use crate::indexes::Look::Finds;
-use crate::indexes::filled;
-use crate::same::same;
 use crate::sights::{OfKeeper, OfPass, OfTable};
 use crate::steps::Step::Call;
 use crate::story::Act::{Deal, Keeper, Pass, Table, Take};
-use crate::story::{End, Story, play};
+use crate::story::{End, Story, play_all};
 use blink_batch::{Answer, Op};
 use blink_live::PassError;
 
@@ -15,6 +13,7 @@ use blink_live::PassError;
 const AT_OPENING: [(usize, u64); 5] = [(0, 1), (1, 2), (53, 1), (54, 1), (123, u64::MAX)];
 
 const OPENED: Story = Story {
+    name: "one insertion has 22 numbers and 44 rows",
     over: (0, 0),
     room: (1, 0),
     acts: &[
@@ -30,26 +29,18 @@ const OPENED: Story = Story {
     end: End::StaysOpen,
 };
 
-#[test]
-fn one_insertion_has_22_numbers_and_44_rows(rt: HostRuntime) {
-    play(&rt, rt.alloc(), &OPENED);
-}
-
 const OPENED_FOR_DELETIONS: Story = Story {
+    name: "deletions have a row each",
     over: (0, 0),
     room: (0, 3),
     acts: &[Table(OfTable::Counts(2, 5)), Keeper(OfKeeper::Left(0, 3))],
     end: End::StaysOpen,
 };
 
-#[test]
-fn deletions_have_a_row_each(rt: HostRuntime) {
-    play(&rt, rt.alloc(), &OPENED_FOR_DELETIONS);
-}
-
 // ---- what a keeper and its passes have
 
 const IN_ORDER: Story = Story {
+    name: "keys are kept in order",
     over: (0, 0),
     room: (2, 0),
     acts: &[
@@ -62,13 +53,9 @@ const IN_ORDER: Story = Story {
     end: End::StaysOpen,
 };
 
-#[test]
-fn keys_are_kept_in_order(rt: HostRuntime) {
-    play(&rt, rt.alloc(), &IN_ORDER);
-}
-
 // The keys 1 to 4 fill a leaf, which key 5 splits, so the index has three pages.
 const WITHOUT_GAPS: Story = Story {
+    name: "spans are dealt without gaps",
     over: (0, 5),
     room: (2, 5),
     acts: &[
@@ -83,12 +70,6 @@ const WITHOUT_GAPS: Story = Story {
     end: End::StaysOpen,
 };
 
-#[test]
-fn spans_are_dealt_without_gaps(rt: HostRuntime) {
-    same(&rt, &filled(&rt, rt.alloc(), 0, 5).page_count(), &3);
-    play(&rt, rt.alloc(), &WITHOUT_GAPS);
-}
-
 // ---- the rows that an insertion writes
 
 // The 24 page words and the 24 latch words once key 5 has split the leaf of the keys 1 to 4: the new right page, 2, was written
@@ -96,6 +77,7 @@ fn spans_are_dealt_without_gaps(rt: HostRuntime) {
 const AFTER_SPLIT: [(usize, u64); 4] = [(0, 6), (1, 4), (2, 3), (3, 5)];
 
 const SPLIT: Story = Story {
+    name: "a split is written right page first",
     over: (0, 4),
     room: (1, 0),
     acts: &[
@@ -106,11 +88,6 @@ const SPLIT: Story = Story {
     ],
     end: End::StaysOpen,
 };
-
-#[test]
-fn a_split_is_written_right_page_first(rt: HostRuntime) {
-    play(&rt, rt.alloc(), &SPLIT);
-}
 
 // ---- the words that deletions write, and the rows that they use
 
@@ -136,6 +113,7 @@ const WITHOUT_KEY_1: [(usize, u64); 15] = [
 
 // After each deletion the pass's next row. Each accepted one uses its row up, and the rows stay 0.
 const DELETIONS: Story = Story {
+    name: "each accepted deletion uses a row",
     over: (0, 4),
     room: (0, 2),
     acts: &[
@@ -163,16 +141,12 @@ const DELETIONS: Story = Story {
     end: End::StaysOpen,
 };
 
-#[test]
-fn each_accepted_deletion_uses_a_row(rt: HostRuntime) {
-    play(&rt, rt.alloc(), &DELETIONS);
-}
-
 // ---- the words that replacements write, and the rows that they use
 
 // After each replacement the word of page 1 and the pass's next row. A record is appended though the pointer stays. Each accepted one
 // uses its row up, and the rows stay 0.
 const REPLACEMENTS: Story = Story {
+    name: "each accepted replacement uses a row",
     over: (4, 5),
     room: (0, 3),
     acts: &[
@@ -199,14 +173,10 @@ const REPLACEMENTS: Story = Story {
     end: End::StaysOpen,
 };
 
-#[test]
-fn each_accepted_replacement_uses_a_row(rt: HostRuntime) {
-    play(&rt, rt.alloc(), &REPLACEMENTS);
-}
-
 // Behind the one entry of page 1 in row 2 there is room for twelve records. The next change writes the page without records, in the row of
 // its own call, the 13th from row 3 on, and the one after that is appended there.
 const FULL_LOG: Story = Story {
+    name: "a row without room for a record gives way to another",
     over: (4, 5),
     room: (0, 14),
     acts: &[
@@ -237,7 +207,18 @@ const FULL_LOG: Story = Story {
     end: End::Closes(&[Finds(&[(5, None)])]),
 };
 
+const STORIES: [&Story; 8] = [
+    &OPENED,
+    &OPENED_FOR_DELETIONS,
+    &IN_ORDER,
+    &WITHOUT_GAPS,
+    &SPLIT,
+    &DELETIONS,
+    &REPLACEMENTS,
+    &FULL_LOG,
+];
+
 #[test]
-fn a_row_without_room_for_a_record_gives_way_to_another(rt: HostRuntime) {
-    play(&rt, rt.alloc(), &FULL_LOG);
+fn tables_by_their_words(rt: HostRuntime) {
+    play_all(&rt, rt.alloc(), &STORIES);
 }

@@ -30,6 +30,8 @@ mod replacing;
 #[cfg(test)]
 mod retiring;
 #[cfg(test)]
+mod row;
+#[cfg(test)]
 mod same;
 #[cfg(test)]
 mod scanning;

@@ -3,12 +3,13 @@ use crate::indexes::Look::Dump;
 use crate::shared::Meeting::Tells;
 use crate::steps::Step::{Call, Change, Glance};
 use crate::story::Act::{Deal, Meet, Run, Take};
-use crate::story::{End, Story, play};
+use crate::story::{End, Story, play_all};
 use crate::works::Work;
 use blink_batch::{Answer, Op};
 use blink_live::PassError;
 
 const ONE_REPLACEMENT: Story = Story {
+    name: "a replacement uses a deletion",
     over: (0, 0),
     room: (1, 1),
     acts: &[
@@ -29,12 +30,8 @@ const ONE_REPLACEMENT: Story = Story {
     end: End::StaysOpen,
 };
 
-#[test]
-fn a_replacement_uses_a_deletion(rt: HostRuntime) {
-    play(&rt, rt.alloc(), &ONE_REPLACEMENT);
-}
-
 const THREE_REPLACEMENTS: Story = Story {
+    name: "each accepted call uses a deletion",
     over: (4, 5),
     room: (0, 3),
     acts: &[
@@ -54,13 +51,9 @@ const THREE_REPLACEMENTS: Story = Story {
     end: End::Closes(&[Dump("0 1 - 18446744073709551615 - 5:51\n")]),
 };
 
-#[test]
-fn each_accepted_call_uses_a_deletion(rt: HostRuntime) {
-    play(&rt, rt.alloc(), &THREE_REPLACEMENTS);
-}
-
 // Each exchange that is accepted uses a deletion of the pass, whatever it answers.
 const FOUR_EXCHANGES: Story = Story {
+    name: "an exchange answers by what it finds",
     over: (4, 5),
     room: (0, 4),
     acts: &[
@@ -82,15 +75,11 @@ const FOUR_EXCHANGES: Story = Story {
     end: End::Closes(&[Dump("0 1 - 18446744073709551615 - 5:51\n")]),
 };
 
-#[test]
-fn an_exchange_answers_by_what_it_finds(rt: HostRuntime) {
-    play(&rt, rt.alloc(), &FOUR_EXCHANGES);
-}
-
 // The tree of four keys, each with eleven times the key.
 const OTHERS: &str = "0 1 - 18446744073709551615 - 1:11 2:22 3:33 4:44\n";
 
 const ONE_LEAF: Story = Story {
+    name: "two threads replace in a leaf",
     over: (0, 4),
     room: (0, 4),
     acts: &[
@@ -110,7 +99,14 @@ const ONE_LEAF: Story = Story {
     end: End::Closes(&[Dump(OTHERS)]),
 };
 
+const STORIES: [&Story; 4] = [
+    &ONE_REPLACEMENT,
+    &THREE_REPLACEMENTS,
+    &FOUR_EXCHANGES,
+    &ONE_LEAF,
+];
+
 #[test]
-fn two_threads_replace_in_a_leaf(rt: HostRuntime) {
-    play(&rt, rt.alloc(), &ONE_LEAF);
+fn passes_that_replace(rt: HostRuntime) {
+    play_all(&rt, rt.alloc(), &STORIES);
 }

@@ -4,11 +4,11 @@ ghost use Rattle.blink_live.specs.{IsPassOf};
 use crate::indexes::Look::Finds;
 use crate::shared::Meeting::Tells;
 use crate::shared::Shared;
-use crate::sights::{OfKeeper, see_keeper};
+use crate::sights::OfKeeper;
 use crate::steps::Step::{self, Call, Glance, GlanceBetween};
 use crate::steps::take;
-use crate::story::Act::{Deal, Keeper, LoseFirst, Meet, RefuseDeal, RetireLast, Take};
-use crate::story::{End, Story, play};
+use crate::story::Act::{Deal, DealRounds, Keeper, LoseFirst, Meet, RefuseDeal, RetireLast, Take};
+use crate::story::{End, Story, play_all};
 use crate::walks::key_at;
 use crate::works::{Work, call};
 use blink_batch::{Answer, Op};
@@ -25,6 +25,7 @@ const FIRST: [Step; 3] = [
 ];
 
 const DEALT_AGAIN: Story = Story {
+    name: "keys that came back are dealt as they were left",
     over: (0, 3),
     room: (2, 2),
     acts: &[
@@ -49,36 +50,24 @@ const DEALT_AGAIN: Story = Story {
     end: End::Closes(&[Finds(&[(1, Some(10)), (2, Some(22)), (3, Some(33)), (4, Some(44))])]),
 };
 
-#[test]
-fn keys_that_came_back_are_dealt_as_they_were_left(rt: HostRuntime) {
-    play(&rt, rt.alloc(), &DEALT_AGAIN);
-}
-
 const CLOSED_WITHOUT: Story = Story {
+    name: "a table closes with what passes left that came back",
     over: (0, 3),
     room: (1, 2),
     acts: &[Deal(&[2, 3, 4], 1, 2), Take(0, &FIRST), RetireLast],
     end: End::Closes(&[Finds(&[(1, Some(10)), (2, None), (3, Some(33)), (4, Some(44))])]),
 };
 
-#[test]
-fn a_table_closes_with_what_passes_left_that_came_back(rt: HostRuntime) {
-    play(&rt, rt.alloc(), &CLOSED_WITHOUT);
-}
-
 const ONE_IS_OUT: Story = Story {
+    name: "a close misses the passes that are out",
     over: (0, 0),
     room: (0, 0),
     acts: &[Deal(&[1], 0, 0), Deal(&[2], 0, 0), RetireLast, LoseFirst],
     end: End::Refused(LiveError::Missing),
 };
 
-#[test]
-fn a_close_misses_the_passes_that_are_out(rt: HostRuntime) {
-    play(&rt, rt.alloc(), &ONE_IS_OUT);
-}
-
 const STAY_TAKEN: Story = Story {
+    name: "other keys stay taken",
     over: (0, 0),
     room: (0, 0),
     acts: &[
@@ -92,13 +81,9 @@ const STAY_TAKEN: Story = Story {
     end: End::StaysOpen,
 };
 
-#[test]
-fn other_keys_stay_taken(rt: HostRuntime) {
-    play(&rt, rt.alloc(), &STAY_TAKEN);
-}
-
 // The second pass has seen the entry of key 5, which it was told; so has whoever gets its key then.
 const SEEN_BEFORE: Story = Story {
+    name: "the next owner has seen what the last one had",
     over: (0, 0),
     room: (1, 0),
     acts: &[
@@ -119,11 +104,6 @@ const SEEN_BEFORE: Story = Story {
     ],
     end: End::StaysOpen,
 };
-
-#[test]
-fn the_next_owner_has_seen_what_the_last_one_had(rt: HostRuntime) {
-    play(&rt, rt.alloc(), &SEEN_BEFORE);
-}
 
 // ---- threads that pass keys round
 
@@ -159,6 +139,17 @@ pub(crate) fn turn<R: Wait + Abort>(rt: &R, live: &Live, pass: &mut Pass, thread
     take(rt, live, pass, Glance(key, Some(now)));
 }
 
+// In each of so many rounds each thread is dealt its key, does its turn and comes back.
+pub(crate) fn deal_rounds<R: Threads + Wait + Abort + Sync>(
+    rt: &R,
+    table: &mut Shared,
+    rounds: u64,
+) {
+    for round in 0..rounds {
+        play_round(rt, table, round);
+    }
+}
+
 fn play_round<R: Threads + Wait + Abort + Sync>(rt: &R, table: &mut Shared, round: u64) {
     for place in 0..THREADS {
         table.deal(rt, &[key_at(place, round)], 0, 1, Ok(()));
@@ -169,14 +160,24 @@ fn play_round<R: Threads + Wait + Abort + Sync>(rt: &R, table: &mut Shared, roun
     }
 }
 
-const GONE_ROUND: End = End::Closes(&[Finds(&[(1, Some(26)), (8, Some(96)), (9, Some(90))])]);
+const GO_ROUND: Story = Story {
+    name: "keys go round in a ring of threads",
+    over: (0, 9),
+    room: (0, 128),
+    acts: &[DealRounds(16), Keeper(OfKeeper::Dealt(128, 0))],
+    end: End::Closes(&[Finds(&[(1, Some(26)), (8, Some(96)), (9, Some(90))])]),
+};
+
+const STORIES: [&Story; 6] = [
+    &DEALT_AGAIN,
+    &CLOSED_WITHOUT,
+    &ONE_IS_OUT,
+    &STAY_TAKEN,
+    &SEEN_BEFORE,
+    &GO_ROUND,
+];
 
 #[test]
-fn keys_go_round_in_a_ring_of_threads(rt: HostRuntime) {
-    let mut table = Shared::open(&rt, rt.alloc(), (0, 9), (0, 128));
-    for round in 0..16 {
-        play_round(&rt, &mut table, round);
-    }
-    see_keeper(&rt, &table.keeper, OfKeeper::Dealt(128, 0));
-    table.end(&rt, GONE_ROUND);
+fn passes_that_come_back(rt: HostRuntime) {
+    play_all(&rt, rt.alloc(), &STORIES);
 }

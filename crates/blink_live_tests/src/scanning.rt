@@ -5,8 +5,9 @@ use crate::indexes::Look::Every;
 use crate::same::{same, same_for};
 use crate::shared::Shared;
 use crate::steps::Step::{self, Call};
-use crate::story::End;
-use crate::walks::every;
+use crate::story::Act::{Deal, DealWalks, Run, Scans, Take};
+use crate::story::{End, Story, play_all};
+use crate::walks::{Walks, every};
 use crate::works::{Change, Work, change_each};
 use blink_batch::{Answer, Entry, Op};
 use blink_live::{Live, Pass, Scanned};
@@ -28,6 +29,13 @@ pub(crate) struct Scan {
 }
 
 impl Shared {
+    pub(crate) fn scan_each(&mut self, rt: &impl Abort, cases: &[Scan]) {
+        for case in cases {
+            self.scan(rt, case);
+        }
+    }
+
+    // The first pass scans so.
     fn scan(&mut self, rt: &impl Abort, case: &Scan) {
         assert!(rt;
             !self.passes.is_empty() && case.places <= 20,
@@ -130,14 +138,13 @@ const OF_FOURTEEN: [Scan; 9] = [
     },
 ];
 
-#[test]
-fn a_scan_reports_its_range(rt: HostRuntime) {
-    let mut table = Shared::open(&rt, rt.alloc(), (0, 14), (0, 0));
-    table.deal(&rt, &[], 0, 0, Ok(()));
-    for case in &OF_FOURTEEN {
-        table.scan(&rt, case);
-    }
-}
+const ITS_RANGE: Story = Story {
+    name: "a scan reports its range",
+    over: (0, 14),
+    room: (0, 0),
+    acts: &[Deal(&[], 0, 0), Scans(&OF_FOURTEEN)],
+    end: End::StaysOpen,
+};
 
 pub(crate) const CHANGES: [Step; 8] = [
     Call(Op::Delete(4), Ok(Answer::Removed(40))),
@@ -178,15 +185,17 @@ const OF_CHANGED: [Scan; 4] = [
     },
 ];
 
-#[test]
-fn a_scan_passes_empty_leaves(rt: HostRuntime) {
-    let mut table = Shared::open(&rt, rt.alloc(), (0, 14), (1, 7));
-    table.deal(&rt, &[2, 4, 5, 6, 7, 8, 9, u64::MAX], 1, 7, Ok(()));
-    table.take(&rt, 0, &CHANGES);
-    for case in &OF_CHANGED {
-        table.scan(&rt, case);
-    }
-}
+const EMPTY_LEAVES: Story = Story {
+    name: "a scan passes empty leaves",
+    over: (0, 14),
+    room: (1, 7),
+    acts: &[
+        Deal(&[2, 4, 5, 6, 7, 8, 9, u64::MAX], 1, 7),
+        Take(0, &CHANGES),
+        Scans(&OF_CHANGED),
+    ],
+    end: End::StaysOpen,
+};
 
 // In one leaf a key gets another pointer, one is removed and one is added.
 pub(crate) const EDITS: [Step; 3] = [
@@ -229,15 +238,13 @@ const OF_EDITED: [Scan; 5] = [
     },
 ];
 
-#[test]
-fn a_scan_reports_what_records_say(rt: HostRuntime) {
-    let mut table = Shared::open(&rt, rt.alloc(), (0, 14), (1, 2));
-    table.deal(&rt, &[0, 2, 3], 1, 2, Ok(()));
-    table.take(&rt, 0, &EDITS);
-    for case in &OF_EDITED {
-        table.scan(&rt, case);
-    }
-}
+const RECORDS: Story = Story {
+    name: "a scan reports what records say",
+    over: (0, 14),
+    room: (1, 2),
+    acts: &[Deal(&[0, 2, 3], 1, 2), Take(0, &EDITS), Scans(&OF_EDITED)],
+    end: End::StaysOpen,
+};
 
 // ---- scans while others change the tree
 
@@ -292,15 +299,17 @@ fn own_among(rt: &impl Abort, entries: &[Entry], from: u64, thread: u64) -> u64 
     own
 }
 
-const EVEN: End = End::Closes(&[Every(2, 0, 256)]);
+const MEANWHILE: Story = Story {
+    name: "four threads scan while four change",
+    over: (0, 0),
+    room: (512, 256),
+    acts: &[DealWalks(Walks::AscendingEighths), Run(Work::ChangeOrScan)],
+    end: End::Closes(&[Every(2, 0, 256)]),
+};
+
+const STORIES: [&Story; 4] = [&ITS_RANGE, &EMPTY_LEAVES, &RECORDS, &MEANWHILE];
 
 #[test]
-fn four_threads_scan_while_four_change(rt: HostRuntime) {
-    let mut table = Shared::open(&rt, rt.alloc(), (0, 0), (512, 256));
-    for thread in 0..8usize {
-        let deletes = if thread % 2 == 1 { 64 } else { 0 };
-        table.deal_walk(&rt, &every(8, thread as u64, 64), 64, deletes);
-    }
-    table.run(&rt, Work::ChangeOrScan);
-    table.end(&rt, EVEN);
+fn passes_that_scan(rt: HostRuntime) {
+    play_all(&rt, rt.alloc(), &STORIES);
 }

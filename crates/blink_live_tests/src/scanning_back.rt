@@ -5,8 +5,9 @@ use crate::indexes::Look::Every;
 use crate::same::same;
 use crate::scanning::{BEFORE, CHANGES, EDITS, Scan, are_as_expected};
 use crate::shared::Shared;
-use crate::story::End;
-use crate::walks::every;
+use crate::story::Act::{Deal, DealWalks, Run, ScansBack, Take};
+use crate::story::{End, Story, play_all};
+use crate::walks::{Walks, every};
 use crate::works::{Change, Work, change_each};
 use blink_batch::Entry;
 use blink_live::{Live, Pass};
@@ -14,6 +15,13 @@ use std::process::Abort;
 use std::sync::Wait;
 
 impl Shared {
+    pub(crate) fn scan_each_back(&mut self, rt: &impl Abort, cases: &[Scan]) {
+        for case in cases {
+            self.scan_back(rt, case);
+        }
+    }
+
+    // The first pass scans so.
     fn scan_back(&mut self, rt: &impl Abort, case: &Scan) {
         assert!(rt;
             !self.passes.is_empty() && case.places <= 20,
@@ -110,14 +118,13 @@ const OF_FOURTEEN: [Scan; 10] = [
     },
 ];
 
-#[test]
-fn a_backward_scan_reports_its_range(rt: HostRuntime) {
-    let mut table = Shared::open(&rt, rt.alloc(), (0, 14), (0, 0));
-    table.deal(&rt, &[], 0, 0, Ok(()));
-    for case in &OF_FOURTEEN {
-        table.scan_back(&rt, case);
-    }
-}
+const ITS_RANGE: Story = Story {
+    name: "a backward scan reports its range",
+    over: (0, 14),
+    room: (0, 0),
+    acts: &[Deal(&[], 0, 0), ScansBack(&OF_FOURTEEN)],
+    end: End::StaysOpen,
+};
 
 // Of the keys 1 to 3, 10 to 14 and the greatest. At least one leaf between has no entry.
 const OF_CHANGED: [Scan; 6] = [
@@ -159,15 +166,17 @@ const OF_CHANGED: [Scan; 6] = [
     },
 ];
 
-#[test]
-fn a_backward_scan_passes_empty_leaves(rt: HostRuntime) {
-    let mut table = Shared::open(&rt, rt.alloc(), (0, 14), (1, 7));
-    table.deal(&rt, &[2, 4, 5, 6, 7, 8, 9, u64::MAX], 1, 7, Ok(()));
-    table.take(&rt, 0, &CHANGES);
-    for case in &OF_CHANGED {
-        table.scan_back(&rt, case);
-    }
-}
+const EMPTY_LEAVES: Story = Story {
+    name: "a backward scan passes empty leaves",
+    over: (0, 14),
+    room: (1, 7),
+    acts: &[
+        Deal(&[2, 4, 5, 6, 7, 8, 9, u64::MAX], 1, 7),
+        Take(0, &CHANGES),
+        ScansBack(&OF_CHANGED),
+    ],
+    end: End::StaysOpen,
+};
 
 // Of the keys 0 to 2 and 4 to 14. A slice may be shorter than the leaf, and a range may begin or end within it.
 const OF_EDITED: [Scan; 5] = [
@@ -203,15 +212,17 @@ const OF_EDITED: [Scan; 5] = [
     },
 ];
 
-#[test]
-fn a_backward_scan_reports_what_records_say(rt: HostRuntime) {
-    let mut table = Shared::open(&rt, rt.alloc(), (0, 14), (1, 2));
-    table.deal(&rt, &[0, 2, 3], 1, 2, Ok(()));
-    table.take(&rt, 0, &EDITS);
-    for case in &OF_EDITED {
-        table.scan_back(&rt, case);
-    }
-}
+const RECORDS: Story = Story {
+    name: "a backward scan reports what records say",
+    over: (0, 14),
+    room: (1, 2),
+    acts: &[
+        Deal(&[0, 2, 3], 1, 2),
+        Take(0, &EDITS),
+        ScansBack(&OF_EDITED),
+    ],
+    end: End::StaysOpen,
+};
 
 // ---- backward scans while others change the tree
 
@@ -271,15 +282,20 @@ fn own_among(rt: &impl Abort, entries: &[Entry], from: u64, thread: u64) -> u64 
     own
 }
 
-const EVEN: End = End::Closes(&[Every(2, 0, 256)]);
+const MEANWHILE: Story = Story {
+    name: "four threads scan back while four change",
+    over: (0, 0),
+    room: (512, 256),
+    acts: &[
+        DealWalks(Walks::AscendingEighths),
+        Run(Work::ChangeOrScanBack),
+    ],
+    end: End::Closes(&[Every(2, 0, 256)]),
+};
+
+const STORIES: [&Story; 4] = [&ITS_RANGE, &EMPTY_LEAVES, &RECORDS, &MEANWHILE];
 
 #[test]
-fn four_threads_scan_back_while_four_change(rt: HostRuntime) {
-    let mut table = Shared::open(&rt, rt.alloc(), (0, 0), (512, 256));
-    for thread in 0..8usize {
-        let deletes = if thread % 2 == 1 { 64 } else { 0 };
-        table.deal_walk(&rt, &every(8, thread as u64, 64), 64, deletes);
-    }
-    table.run(&rt, Work::ChangeOrScanBack);
-    table.end(&rt, EVEN);
+fn passes_that_scan_back(rt: HostRuntime) {
+    play_all(&rt, rt.alloc(), &STORIES);
 }

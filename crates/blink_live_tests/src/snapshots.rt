@@ -3,22 +3,32 @@
 use crate::same::same_for;
 use crate::shared::Shared;
 use crate::steps::Step::{self, Call};
+use crate::story::Act::{Deal, NoSnapshot, Snapshots, Take};
+use crate::story::{End, Story, play_all};
 use blink_batch::{Answer, Entry, Op};
-use std::alloc::Global;
 use std::process::Abort;
 
 // A range and its entries.
-struct Taken {
-    range: (u64, u64),
-    entries: &'static [(u64, u64)],
+pub(crate) struct Taken {
+    pub range: (u64, u64),
+    pub entries: &'static [(u64, u64)],
 }
 
 impl Shared {
+    pub(crate) fn snapshot_each(&mut self, rt: &impl Abort, cases: &[Taken]) {
+        for case in cases {
+            self.snapshot(rt, case);
+        }
+    }
+
     // The first pass takes a snapshot at the first try, since nobody else changes the tree.
-    fn snapshot(&mut self, rt: &impl Abort, alloc: Global, case: &Taken) {
+    fn snapshot(&mut self, rt: &impl Abort, case: &Taken) {
         assert!(rt; !self.passes.is_empty(), "no pass");
         let (lo, hi) = case.range;
-        let Ok(Some(entries)) = self.live.snapshot(alloc, &mut self.passes[0], lo, hi, 1) else {
+        let Ok(Some(entries)) = self
+            .live
+            .snapshot(self.alloc, &mut self.passes[0], lo, hi, 1)
+        else {
             panic!(rt; "no snapshot of {:?}", case.range)
         };
         same_for(rt, &entries.len(), &case.entries.len(), &case.range);
@@ -29,9 +39,9 @@ impl Shared {
     }
 
     // The first pass takes no snapshot without a try.
-    fn has_no_snapshot(&mut self, rt: &impl Abort, alloc: Global) {
+    pub(crate) fn has_no_snapshot(&mut self, rt: &impl Abort) {
         assert!(rt; !self.passes.is_empty(), "no pass");
-        let Ok(None) = self.live.snapshot(alloc, &mut self.passes[0], 0, 9, 0) else {
+        let Ok(None) = self.live.snapshot(self.alloc, &mut self.passes[0], 0, 9, 0) else {
             panic!(rt; "a snapshot without a try")
         };
     }
@@ -80,21 +90,21 @@ const OF_FOURTEEN: [Taken; 6] = [
     },
 ];
 
-#[test]
-fn a_snapshot_has_its_range(rt: HostRuntime) {
-    let mut table = Shared::open(&rt, rt.alloc(), (0, 14), (0, 0));
-    table.deal(&rt, &[], 0, 0, Ok(()));
-    for case in &OF_FOURTEEN {
-        table.snapshot(&rt, rt.alloc(), case);
-    }
-}
+const ITS_RANGE: Story = Story {
+    name: "a snapshot has its range",
+    over: (0, 14),
+    room: (0, 0),
+    acts: &[Deal(&[], 0, 0), Snapshots(&OF_FOURTEEN)],
+    end: End::StaysOpen,
+};
 
-#[test]
-fn no_try_takes_no_snapshot(rt: HostRuntime) {
-    let mut table = Shared::open(&rt, rt.alloc(), (0, 14), (0, 0));
-    table.deal(&rt, &[], 0, 0, Ok(()));
-    table.has_no_snapshot(&rt, rt.alloc());
-}
+const NO_TRY: Story = Story {
+    name: "no try takes no snapshot",
+    over: (0, 14),
+    room: (0, 0),
+    acts: &[Deal(&[], 0, 0), NoSnapshot],
+    end: End::StaysOpen,
+};
 
 const CHANGES: [Step; 8] = [
     Call(Op::Delete(4), Ok(Answer::Removed(40))),
@@ -127,12 +137,21 @@ const OF_CHANGED: [Taken; 4] = [
     },
 ];
 
+const EMPTY_LEAVES: Story = Story {
+    name: "a snapshot passes empty leaves",
+    over: (0, 14),
+    room: (1, 7),
+    acts: &[
+        Deal(&[2, 4, 5, 6, 7, 8, 9, u64::MAX], 1, 7),
+        Take(0, &CHANGES),
+        Snapshots(&OF_CHANGED),
+    ],
+    end: End::StaysOpen,
+};
+
+const STORIES: [&Story; 3] = [&ITS_RANGE, &NO_TRY, &EMPTY_LEAVES];
+
 #[test]
-fn a_snapshot_passes_empty_leaves(rt: HostRuntime) {
-    let mut table = Shared::open(&rt, rt.alloc(), (0, 14), (1, 7));
-    table.deal(&rt, &[2, 4, 5, 6, 7, 8, 9, u64::MAX], 1, 7, Ok(()));
-    table.take(&rt, 0, &CHANGES);
-    for case in &OF_CHANGED {
-        table.snapshot(&rt, rt.alloc(), case);
-    }
+fn passes_that_take_snapshots(rt: HostRuntime) {
+    play_all(&rt, rt.alloc(), &STORIES);
 }

@@ -8,9 +8,11 @@ use crate::same::{push, same, same_for};
 use crate::shared::{Shared, with_last, without_last};
 use crate::steps::Step::{self, Call, Glance};
 use crate::steps::take_all;
-use crate::story::Act::{Deal, InSteps, LoseLast, LoseLastUnderWay, Take};
-use crate::story::{End, Story, play};
-use crate::walks::every;
+use crate::story::Act::{
+    Deal, DealWalks, InSteps, InsertAllInSteps, LoseLast, LoseLastUnderWay, Take,
+};
+use crate::story::{End, Story, play_all};
+use crate::walks::Walks;
 use blink_batch::{Answer, Op};
 use blink_live::{Live, LiveError, Pass, PassError, Pending};
 use std::process::Abort;
@@ -117,6 +119,7 @@ impl Shared {
 // ---- one thread
 
 const FIVE_INSERTED: Story = Story {
+    name: "an insertion ends in steps",
     over: (0, 4),
     room: (1, 0),
     acts: &[
@@ -127,12 +130,8 @@ const FIVE_INSERTED: Story = Story {
     end: End::Closes(&[Dump(SPLIT)]),
 };
 
-#[test]
-fn an_insertion_ends_in_steps(rt: HostRuntime) {
-    play(&rt, rt.alloc(), &FIVE_INSERTED);
-}
-
 const CHANGES: Story = Story {
+    name: "steps answer and refuse as calls do",
     over: (0, 4),
     room: (1, 3),
     acts: &[
@@ -149,11 +148,6 @@ const CHANGES: Story = Story {
     end: End::Closes(&[Finds(&[(3, None), (4, Some(40))])]),
 };
 
-#[test]
-fn steps_answer_and_refuse_as_calls_do(rt: HostRuntime) {
-    play(&rt, rt.alloc(), &CHANGES);
-}
-
 const SIX_AND_SEVEN: [Step; 3] = [
     Call(Op::Insert(6, 60), Ok(Answer::Inserted)),
     Call(Op::Insert(7, 70), Ok(Answer::Inserted)),
@@ -162,6 +156,7 @@ const SIX_AND_SEVEN: [Step; 3] = [
 
 // The first insertion splits the leaf that the pending one has come to.
 const SPLIT_MEANWHILE: Story = Story {
+    name: "a pending insertion lets another pass split its leaf",
     over: (0, 4),
     room: (3, 0),
     acts: &[
@@ -172,12 +167,8 @@ const SPLIT_MEANWHILE: Story = Story {
     end: End::Closes(&[Scan(0, u64::MAX, &[1, 2, 3, 4, 5, 6, 7])]),
 };
 
-#[test]
-fn a_pending_insertion_lets_another_pass_split_its_leaf(rt: HostRuntime) {
-    play(&rt, rt.alloc(), &SPLIT_MEANWHILE);
-}
-
 const LOST: Story = Story {
+    name: "a lost insertion costs its pass alone",
     over: (0, 4),
     room: (3, 0),
     acts: &[
@@ -189,13 +180,9 @@ const LOST: Story = Story {
     end: End::Refused(LiveError::Missing),
 };
 
-#[test]
-fn a_lost_insertion_costs_its_pass_alone(rt: HostRuntime) {
-    play(&rt, rt.alloc(), &LOST);
-}
-
 // An operation that gave up in the middle of its leaf would leave the leaf latched, and the other pass would wait for ever.
 const LOST_UNDER_WAY: Story = Story {
+    name: "a pass lost under way leaves no latch",
     over: (0, 4),
     room: (3, 0),
     acts: &[
@@ -211,11 +198,6 @@ const SIX_AND_SEVEN_ALONE: [Step; 2] = [
     Call(Op::Insert(6, 60), Ok(Answer::Inserted)),
     Call(Op::Insert(7, 70), Ok(Answer::Inserted)),
 ];
-
-#[test]
-fn a_pass_lost_under_way_leaves_no_latch(rt: HostRuntime) {
-    play(&rt, rt.alloc(), &LOST_UNDER_WAY);
-}
 
 // ---- several threads
 
@@ -273,7 +255,7 @@ fn begin_all(rt: &impl Abort, live: &Live, passes: &mut Vec<Pass>, begun: &mut V
 
 impl Shared {
     // Each pass begins here, and goes on in a thread of its own.
-    fn insert_all<R: Threads + Wait + Abort + Sync>(&mut self, rt: &R) {
+    pub(crate) fn insert_all<R: Threads + Wait + Abort + Sync>(&mut self, rt: &R) {
         let (live, passes) = (&self.live, &mut self.passes);
         let mut begun = Vec::new(self.alloc);
         begin_all(rt, live, passes, &mut begun);
@@ -285,14 +267,24 @@ impl Shared {
     }
 }
 
-const ALL: End = End::Closes(&[Every(1, 0, 256)]);
+const GO_ON: Story = Story {
+    name: "four threads go on with insertions",
+    over: (0, 0),
+    room: (256, 0),
+    acts: &[DealWalks(Walks::ShortFourths), InsertAllInSteps],
+    end: End::Closes(&[Every(1, 0, 256)]),
+};
+
+const STORIES: [&Story; 6] = [
+    &FIVE_INSERTED,
+    &CHANGES,
+    &SPLIT_MEANWHILE,
+    &LOST,
+    &LOST_UNDER_WAY,
+    &GO_ON,
+];
 
 #[test]
-fn four_threads_go_on_with_insertions(rt: HostRuntime) {
-    let mut table = Shared::open(&rt, rt.alloc(), (0, 0), (256, 0));
-    for thread in 0..4 {
-        table.deal_walk(&rt, &every(4, thread, 64), 64, 0);
-    }
-    table.insert_all(&rt);
-    table.end(&rt, ALL);
+fn operations_in_steps(rt: HostRuntime) {
+    play_all(&rt, rt.alloc(), &STORIES);
 }

@@ -1,10 +1,17 @@
 //! What happens to a table from its opening to its close, as a list of acts. Most tests are such stories, which the same few
 //! functions go through: so a test costs its proof next to nothing.
+use crate::finding_all::FindAll;
+use crate::handing::hand_rounds;
 use crate::indexes::{Look, look_at};
+use crate::retiring::deal_rounds;
+use crate::row::Row;
 use crate::same::{given, same};
+use crate::scanning::Scan;
 use crate::shared::{Meeting, Shared};
 use crate::sights::{OfKeeper, OfPass, OfTable, see_keeper, see_pass, see_table};
+use crate::snapshots::Taken;
 use crate::steps::Step;
+use crate::walks::Walks;
 use crate::works::Work;
 use blink_batch::{Answer, Op};
 use blink_live::{LiveError, PassError};
@@ -14,6 +21,7 @@ use std::sync::Wait;
 use std::thread::Threads;
 
 pub(crate) struct Story {
+    pub name: &'static str,
     // The table is opened over the index of the keys after the first number up to the second, each with ten times the key.
     pub over: (usize, usize),
     // The insertions and deletions for which it has room.
@@ -27,6 +35,8 @@ pub(crate) struct Story {
 pub(crate) enum Act {
     // A pass with these keys and so many insertions and deletions is dealt.
     Deal(&'static [u64], u32, u32),
+    // A pass with the keys of each of several threads is dealt.
+    DealWalks(Walks),
     // Such a deal is refused with this.
     RefuseDeal(&'static [u64], u32, u32, LiveError),
     // The pass at this place takes these steps.
@@ -37,6 +47,18 @@ pub(crate) enum Act {
     InSteps(Op, &'static [Step], Result<Answer, PassError>),
     // Each pass does its part in a thread of its own.
     Run(Work),
+    // Each pass begins an insertion here, and goes on in a thread of its own.
+    InsertAllInSteps,
+    // So many rounds of eight passes whose keys go round: they come back and are dealt again, or are handed round.
+    DealRounds(u64),
+    HandRounds(u64),
+    // The first pass scans, takes snapshots, or finds several keys.
+    Scans(&'static [Scan]),
+    ScansBack(&'static [Scan]),
+    Snapshots(&'static [Taken]),
+    // It takes no snapshot without a try.
+    NoSnapshot,
+    FindsAll(FindAll),
     // The last pass comes back.
     RetireLast,
     // The first pass is dropped.
@@ -59,7 +81,19 @@ pub(crate) enum End {
     Refused(LiveError),
 }
 
-pub(crate) fn play<R: Threads + Wait + Abort + Sync>(rt: &R, alloc: Global, story: &Story) {
+// Each story goes so.
+pub(crate) fn play_all<R: Threads + Wait + Abort + Sync>(
+    rt: &R,
+    alloc: Global,
+    stories: &[&Story],
+) {
+    for &story in stories {
+        let name = story.name;
+        play(&Row { rt, name }, alloc, story);
+    }
+}
+
+fn play<R: Threads + Wait + Abort + Sync>(rt: &R, alloc: Global, story: &Story) {
     let mut table = Shared::open(rt, alloc, story.over, story.room);
     for act in story.acts {
         table.play(rt, *act);
@@ -78,19 +112,36 @@ impl Shared {
             Act::Meet(place, meeting) => self.meet(rt, place, meeting),
             Act::InSteps(op, steps, expected) => self.call_in_steps(rt, op, steps, expected),
             Act::Run(work) => self.run(rt, work),
+            Act::InsertAllInSteps => self.insert_all(rt),
+            Act::DealWalks(walks) => self.deal_walks(rt, walks),
+            Act::DealRounds(rounds) => deal_rounds(rt, self, rounds),
+            Act::HandRounds(rounds) => hand_rounds(rt, self, rounds),
             Act::RetireLast => self.retire_last(rt),
             Act::LoseFirst => self.lose_first(rt),
             Act::LoseLast(op) => self.lose_last(rt, op),
             Act::LoseLastUnderWay(op) => self.lose_last_under_way(rt, op),
+            _ => self.look(rt, act),
+        }
+    }
+
+    // The table is seen so, and nothing else is done.
+    fn look(&mut self, rt: &impl Abort, act: Act) {
+        match act {
             Act::Table(sight) => see_table(rt, &self.live, sight),
             Act::Keeper(sight) => see_keeper(rt, &self.keeper, sight),
             Act::Pass(place, sight) => {
                 see_pass(rt, self.passes.get(place).expect(rt, "no pass"), sight);
             }
+            Act::Scans(cases) => self.scan_each(rt, cases),
+            Act::ScansBack(cases) => self.scan_each_back(rt, cases),
+            Act::Snapshots(cases) => self.snapshot_each(rt, cases),
+            Act::NoSnapshot => self.has_no_snapshot(rt),
+            Act::FindsAll(case) => self.find_all(rt, &case),
+            _ => panic!(rt; "an act that does something"),
         }
     }
 
-    pub(crate) fn end(self, rt: &impl Abort, end: End) {
+    fn end(self, rt: &impl Abort, end: End) {
         let alloc = self.alloc;
         match end {
             End::StaysOpen => {}

@@ -15,6 +15,41 @@ pub(crate) struct Walk {
     start: u64,
 }
 
+// The keys of several threads.
+#[derive(Clone, Copy)]
+pub(crate) enum Walks {
+    // The keys 0 to 255, by one thread.
+    Ascending,
+    // Each fourth key below 1,024, or below 256.
+    Fourths,
+    ShortFourths,
+    // Each eighth key below 512, in the orders of `eighth`, or all in ascending order. The odd threads may delete theirs.
+    Eighths,
+    AscendingEighths,
+}
+
+impl Walks {
+    fn threads(self) -> usize {
+        match self {
+            Walks::Ascending => 1,
+            Walks::Fourths | Walks::ShortFourths => 4,
+            Walks::Eighths | Walks::AscendingEighths => 8,
+        }
+    }
+
+    // The thread's keys, and how many insertions and deletions it may make.
+    fn of(self, thread: usize) -> (Walk, u32, u32) {
+        let deletes = if thread % 2 == 1 { 64 } else { 0 };
+        match self {
+            Walks::Ascending => (every(1, 0, 256), 256, 0),
+            Walks::Fourths => (fourth(thread), 256, 0),
+            Walks::ShortFourths => (every(4, thread as u64, 64), 64, 0),
+            Walks::Eighths => (eighth(thread), 64, deletes),
+            Walks::AscendingEighths => (every(8, thread as u64, 64), 64, deletes),
+        }
+    }
+}
+
 // The keys in ascending order.
 pub(crate) fn every(step: u64, first: u64, count: u64) -> Walk {
     Walk {
@@ -71,9 +106,12 @@ pub(crate) fn key_at(thread: usize, round: u64) -> u64 {
 }
 
 impl Shared {
-    // A pass with the walk's keys is dealt.
-    pub(crate) fn deal_walk(&mut self, rt: &impl Abort, walk: &Walk, inserts: u32, deletes: u32) {
-        let keys = keys_of(rt, self.alloc, walk);
-        self.deal(rt, &keys, inserts, deletes, Ok(()));
+    // A pass with the keys of each thread is dealt.
+    pub(crate) fn deal_walks(&mut self, rt: &impl Abort, walks: Walks) {
+        for thread in 0..walks.threads() {
+            let (walk, inserts, deletes) = walks.of(thread);
+            let keys = keys_of(rt, self.alloc, &walk);
+            self.deal(rt, &keys, inserts, deletes, Ok(()));
+        }
     }
 }

@@ -2,10 +2,10 @@
 ghost use Rattle.blink_live.specs.{IsPassOf};
 
 use crate::indexes::Look::Every;
-use crate::shared::Shared;
 use crate::steps::look;
-use crate::story::End;
-use crate::walks::{Walk, every, key_after};
+use crate::story::Act::{DealWalks, Run};
+use crate::story::{End, Story, play_all};
+use crate::walks::{Walk, Walks, every, key_after};
 use crate::works::{Change, Work, change_one};
 use blink_live::{Live, Pass};
 use std::process::Abort;
@@ -66,19 +66,17 @@ pub(crate) fn watch_eighth<R: Wait + Abort>(rt: &R, live: &Live, pass: &mut Pass
     }
 }
 
-const EVEN: End = End::Closes(&[Every(2, 0, 256)]);
+const WATCHED: Story = Story {
+    name: "eight threads look at each others keys",
+    over: (0, 0),
+    room: (512, 256),
+    acts: &[DealWalks(Walks::AscendingEighths), Run(Work::WatchEighth)],
+    end: End::Closes(&[Every(2, 0, 256)]),
+};
+
+const STORIES: [&Story; 1] = [&WATCHED];
 
 #[test]
-fn eight_threads_look_at_each_others_keys(rt: HostRuntime) {
-    let mut table = Shared::open(&rt, rt.alloc(), (0, 0), (512, 256));
-    for thread in 0..8 {
-        table.deal_walk(
-            &rt,
-            &watched(thread),
-            64,
-            if thread % 2 == 1 { 64 } else { 0 },
-        );
-    }
-    table.run(&rt, Work::WatchEighth);
-    table.end(&rt, EVEN);
+fn passes_that_watch(rt: HostRuntime) {
+    play_all(&rt, rt.alloc(), &STORIES);
 }

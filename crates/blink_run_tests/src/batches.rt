@@ -3,6 +3,7 @@ pub(crate) mod gates;
 
 use crate::calls::{CutBatch, DRIVERS};
 use crate::fixtures::{given, is_shown, same, same_for};
+use crate::row::Row;
 use blink_batch::{Answer, Op};
 use blink_index::Index;
 use blink_run::{Driver, Gate, Open, RunError, run_batch};
@@ -90,6 +91,7 @@ enum Lanes<'a> {
 // A batch that workers run on the index of the keys 1 to `last`, its answers, and the text of the pages after it.
 #[derive(Clone, Copy)]
 struct Example<'a> {
+    name: &'a str,
     last: u64,
     ops: &'a [Op],
     lanes: Lanes<'a>,
@@ -122,15 +124,9 @@ fn expect_example<R: Threads + Wait + Abort + Sync>(
 }
 
 // The same by both drivers.
-fn expect_examples<R: Threads + Wait + Abort + Sync>(
-    rt: &R,
-    alloc: Global,
-    examples: &[Example<'_>],
-) {
-    for example in examples {
-        expect_example(rt, alloc, Driver::Locked, example);
-        expect_example(rt, alloc, Driver::Live, example);
-    }
+fn expect_by_both<R: Threads + Wait + Abort + Sync>(rt: &R, alloc: Global, example: &Example<'_>) {
+    expect_example(rt, alloc, Driver::Locked, example);
+    expect_example(rt, alloc, Driver::Live, example);
 }
 
 // Three replacements and no deletion: at a table they use the allowance of deletions.
@@ -193,17 +189,17 @@ const FIVE_PAGES: &str = "1 3 - 18446744073709551615 - 3:1 18446744073709551615:
 0 2 3 18446744073709551615 - 4:40 5:50
 ";
 
-const EXAMPLES: [Example<'static>; 7] = [
-    // A batch runs by two workers.
+const EXAMPLES: [Example<'static>; 8] = [
     Example {
+        name: "a batch runs by two workers",
         last: 4,
         ops: &[Op::Insert(5, 50), Op::Find(4)],
         lanes: Lanes::ByRemainder(2),
         answers: &[Answer::Inserted, Answer::Found(40)],
         pages: FIVE_PAGES,
     },
-    // Two workers meet in one leaf, which splits, whoever comes first.
     Example {
+        name: "two workers meet in one leaf, which splits, whoever comes first",
         last: 4,
         ops: &[
             Op::Insert(5, 50),
@@ -223,8 +219,8 @@ const EXAMPLES: [Example<'static>; 7] = [
 0 2 3 18446744073709551615 - 5:50 6:60
 ",
     },
-    // Replacements keep their leaf, by one worker and by more.
     Example {
+        name: "replacements keep their leaf: one worker",
         last: 5,
         ops: &REPLACEMENTS,
         lanes: Lanes::ByRemainder(1),
@@ -232,6 +228,7 @@ const EXAMPLES: [Example<'static>; 7] = [
         pages: REPLACED_PAGES,
     },
     Example {
+        name: "replacements keep their leaf: four workers",
         last: 5,
         ops: &REPLACEMENTS,
         lanes: Lanes::ByRemainder(4),
@@ -239,6 +236,7 @@ const EXAMPLES: [Example<'static>; 7] = [
         pages: REPLACED_PAGES,
     },
     Example {
+        name: "exchanges keep their leaf",
         last: 5,
         ops: &EXCHANGES,
         lanes: Lanes::ByRemainder(4),
@@ -246,46 +244,45 @@ const EXAMPLES: [Example<'static>; 7] = [
         pages: REPLACED_PAGES,
     },
     Example {
+        name: "exact deletions keep their leaf",
         last: 5,
         ops: &EXACT_DELETIONS,
         lanes: Lanes::ByRemainder(4),
         answers: &AFTER_EXACT_DELETIONS,
         pages: FOUR_REMOVED_PAGES,
     },
-    // An empty batch changes nothing.
     Example {
+        name: "an empty batch changes nothing",
         last: 5,
         ops: &[],
         lanes: Lanes::ByRemainder(3),
         answers: &[],
         pages: FIVE_PAGES,
     },
+    Example {
+        name: "a leaf emptied by deletions stays",
+        last: 5,
+        ops: &[Op::Delete(1), Op::Delete(2), Op::Delete(3), Op::Find(3)],
+        lanes: Lanes::ByRemainder(1),
+        answers: &[
+            Answer::Removed(10),
+            Answer::Removed(20),
+            Answer::Removed(30),
+            Answer::Absent,
+        ],
+        pages: "1 3 - 18446744073709551615 - 3:1 18446744073709551615:2
+0 1 - 3 2
+0 2 3 18446744073709551615 - 4:40 5:50
+",
+    },
 ];
 
 #[test]
 fn batches_leave_answers_and_pages(rt: HostRuntime) {
-    expect_examples(&rt, rt.alloc(), &EXAMPLES)
-}
-
-const DELETIONS: [Example<'static>; 1] = [Example {
-    last: 5,
-    ops: &[Op::Delete(1), Op::Delete(2), Op::Delete(3), Op::Find(3)],
-    lanes: Lanes::ByRemainder(1),
-    answers: &[
-        Answer::Removed(10),
-        Answer::Removed(20),
-        Answer::Removed(30),
-        Answer::Absent,
-    ],
-    pages: "1 3 - 18446744073709551615 - 3:1 18446744073709551615:2
-0 1 - 3 2
-0 2 3 18446744073709551615 - 4:40 5:50
-",
-}];
-
-#[test]
-fn a_leaf_emptied_by_deletions_stays(rt: HostRuntime) {
-    expect_examples(&rt, rt.alloc(), &DELETIONS)
+    for example in &EXAMPLES {
+        let name = example.name;
+        expect_by_both(&Row { rt: &rt, name }, rt.alloc(), example);
+    }
 }
 
 /// The pages of 14 keys, inserted in order by one worker. The numbers are in the order in which pages come to be.

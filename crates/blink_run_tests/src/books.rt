@@ -6,6 +6,7 @@ use crate::batches::gates::{CountingGate, LOOKS};
 use crate::batches::{are_found, are_inserted};
 use crate::calls::CutBatch;
 use crate::fixtures::{given, same, same_for};
+use crate::row::Row;
 use blink_batch::{Answer, Op};
 use blink_index::Index;
 use blink_locked::{Book, LockedRun, Origin, Turn};
@@ -62,6 +63,7 @@ enum End {
 // What is done with the book of a run of these operations on a new index, and how it ends.
 #[derive(Clone, Copy)]
 struct Play<'a> {
+    name: &'a str,
     ops: &'a [Op],
     acts: &'a [Act<'a>],
     end: End,
@@ -290,67 +292,57 @@ const NONE_MOVES: [TurnTaken; 2] = [(0, 1, Turn::Stopped), (1, 0, Turn::Stopped)
 
 const BOTH_OVER: [TurnTaken; 2] = [(1, 0, Turn::Over), (0, 1, Turn::Over)];
 
-const PLAYS: [Play<'static>; 7] = [
-    // Each turn returns its step.
+// Three operations of one worker.
+const THREE: [Op; 3] = [Op::Insert(2, 20), Op::Insert(4, 40), Op::Find(2)];
+
+const PLAYS: [Play<'static>; 10] = [
     Play {
+        name: "each turn returns its step",
         ops: &TWO,
         acts: &[Act::Takes(&ONE_WAITS), Act::Takes(&ONE_ENDS)],
         end: End::Dropped,
     },
-    // A stopped book takes no turn.
     Play {
+        name: "a stopped book takes no turn",
         ops: &TWO,
         acts: &[Act::Takes(&ONE_WAITS), Act::Stops, Act::Takes(&NONE_MOVES)],
         end: End::Refused(RunError::OutOfMemory),
     },
     // One operation is under way and the other waits for it: nobody takes the steps that are left.
     Play {
+        name: "one operation waits for another, and nobody takes the steps that are left",
         ops: &TWO,
         acts: &[Act::Takes(&ONE_WAITS)],
         end: End::Refused(RunError::Foreign),
     },
     // Of a stopped book that isn't the reason.
     Play {
+        name: "a stopped book with operations left",
         ops: &TWO,
         acts: &[Act::Stops],
         end: End::Refused(RunError::OutOfMemory),
     },
-    // No worker has begun.
     Play {
+        name: "no worker has begun",
         ops: &TWO,
         acts: &[],
         end: End::Refused(RunError::Foreign),
     },
-    // A book at its end is settled.
     Play {
+        name: "a book at its end is settled",
         ops: &TWO,
         acts: &[Act::RunsLanes, Act::Takes(&BOTH_OVER)],
         end: End::BothInserted,
     },
-    // A waiting worker sees the stop.
     Play {
+        name: "a waiting worker sees the stop",
         ops: &TWO,
         acts: &[Act::Takes(&ONE_WAITS), Act::WaitsForStop],
         end: End::Refused(RunError::OutOfMemory),
     },
-];
-
-fn expect_plays<R: Threads + Wait + Abort + Sync>(rt: &R, alloc: Global, plays: &[Play<'_>]) {
-    for play in plays {
-        expect_play(rt, alloc, play);
-    }
-}
-
-#[test]
-fn a_book_is_settled_at_its_end_unless_it_is_stopped(rt: HostRuntime) {
-    expect_plays(&rt, rt.alloc(), &PLAYS)
-}
-
-// Three operations of one worker.
-const THREE: [Op; 3] = [Op::Insert(2, 20), Op::Insert(4, 40), Op::Find(2)];
-
-const STOPPED_PLAYS: [Play<'static>; 3] = [
+    // Three operations of one worker.
     Play {
+        name: "a moving worker sees no stop, and ends",
         ops: &THREE,
         acts: &[Act::RunsToStop(Stop {
             before: 9,
@@ -361,6 +353,7 @@ const STOPPED_PLAYS: [Play<'static>; 3] = [
         end: End::Dropped,
     },
     Play {
+        name: "a moving worker sees the stop before its second operation",
         ops: &THREE,
         acts: &[Act::RunsToStop(Stop {
             before: 1,
@@ -371,6 +364,7 @@ const STOPPED_PLAYS: [Play<'static>; 3] = [
         end: End::Refused(RunError::OutOfMemory),
     },
     Play {
+        name: "a moving worker sees the stop behind its first operation",
         ops: &THREE,
         acts: &[Act::RunsToStop(Stop {
             before: 9,
@@ -382,7 +376,11 @@ const STOPPED_PLAYS: [Play<'static>; 3] = [
     },
 ];
 
+// A book is settled at its end, unless it is stopped.
 #[test]
-fn a_moving_worker_sees_the_stop(rt: HostRuntime) {
-    expect_plays(&rt, rt.alloc(), &STOPPED_PLAYS)
+fn books_end_so(rt: HostRuntime) {
+    for play in &PLAYS {
+        let name = play.name;
+        expect_play(&Row { rt: &rt, name }, rt.alloc(), play);
+    }
 }

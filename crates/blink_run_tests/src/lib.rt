@@ -12,6 +12,8 @@ mod fixtures;
 #[cfg(test)]
 mod replays;
 #[cfg(test)]
+mod row;
+#[cfg(test)]
 mod scripts;
 #[cfg(test)]
 mod settings;

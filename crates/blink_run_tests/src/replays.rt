@@ -105,15 +105,11 @@ fn is_as_in(rt: &impl Abort, outcome: &Outcome, example: &Example<'_>, expected:
     same_for(rt, &outcome.unread, &0, &example.script)
 }
 
-fn expect_examples(rt: &impl Abort, alloc: Global, examples: &[Example<'_>]) {
-    for example in examples {
-        expect_example(rt, alloc, example);
-    }
-}
-
 #[test]
 fn replays_write_trace_answers_and_pages(rt: HostRuntime) {
-    expect_examples(&rt, rt.alloc(), &EXAMPLES)
+    for example in &EXAMPLES {
+        expect_example(&rt, rt.alloc(), example);
+    }
 }
 
 // How many bytes two workers leave unread of a script that isn't replayed by this schedule.
@@ -127,8 +123,9 @@ fn unread_after(rt: &impl Abort, alloc: Global, schedule: &[u8], error: ServeErr
 // A script with a word that is no operation.
 const REFUSED: &str = "insert,1,1\nput,1,1\n";
 
+// A number that is no worker is refused before reading, and a script that is none isn't replayed.
 #[test]
-fn a_number_that_is_no_worker_is_refused_before_reading(rt: HostRuntime) {
+fn replays_that_are_refused(rt: HostRuntime) {
     for (schedule, worker) in [([2, 0, 0], 2), ([0, 63, 2], 63), ([0, 1, 2], 2)] {
         let refusal = ServeError::Step(StepError::NoWorker(worker));
         let unread = unread_after(&rt, rt.alloc(), &schedule, refusal);
@@ -136,26 +133,20 @@ fn a_number_that_is_no_worker_is_refused_before_reading(rt: HostRuntime) {
     }
     let refusal = ServeError::Step(StepError::NoWorker(2));
     same(&rt, &refusal.code(), &31);
-}
-
-#[test]
-fn refused_scripts_are_not_replayed(rt: HostRuntime) {
+    same(&rt, &first_of_no_worker(&[0, 2, 1, 3], 2), &Some(2));
+    same(&rt, &first_of_no_worker(&[1, 0], 2), &None);
     let row = ScriptError::Row(2, RecordError::UnknownOperation);
     unread_after(&rt, rt.alloc(), &[0], ServeError::Script(row));
 }
 
 #[test]
-fn the_first_number_that_is_no_worker(rt: HostRuntime) {
-    same(&rt, &first_of_no_worker(&[0, 2, 1, 3], 2), &Some(2));
-    same(&rt, &first_of_no_worker(&[1, 0], 2), &None);
-}
-
-#[test]
-fn lanes_are_the_remainders_of_keys(rt: HostRuntime) {
+fn lanes_are_remainders_of_keys_and_batches_are_counted(rt: HostRuntime) {
     let ops = [Op::Insert(4, 40), Op::Find(5), Op::Delete(6)];
     let batch = batch_of(&rt, rt.alloc(), &ops);
     let lanes = given(&rt, lanes_by_residue(rt.alloc(), &batch, 3));
     same(&rt, &lanes.lanes(), &[1, 2, 0].as_slice());
+    same(&rt, &batches_with(&Part::Scan(0, 9), 3), &3);
+    same(&rt, &batches_with(&Part::Batch(batch), 3), &4);
 }
 
 // The index after the parts of a script, which two workers run on a new one.
@@ -188,13 +179,6 @@ fn parts_run_on_one_index(rt: HostRuntime) {
     let index = index_after(&rt, rt.alloc(), script);
     has_entry(&rt, rt.alloc(), &index);
     has_scan(&rt, rt.alloc(), &index)
-}
-
-#[test]
-fn batches_are_counted_among_parts(rt: HostRuntime) {
-    let batch = batch_of(&rt, rt.alloc(), &[Op::Find(5)]);
-    same(&rt, &batches_with(&Part::Scan(0, 9), 3), &3);
-    same(&rt, &batches_with(&Part::Batch(batch), 3), &4);
 }
 
 #[test]

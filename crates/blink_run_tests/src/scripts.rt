@@ -78,19 +78,11 @@ fn expect_text_by_all<R: Threads + Wait + Abort + Sync>(
     }
 }
 
-fn expect_texts<R: Threads + Wait + Abort + Sync>(
-    rt: &R,
-    alloc: Global,
-    cases: &[(u8, &str, &str)],
-) {
-    for &(fan, script, expected) in cases {
-        expect_text_by_all(rt, alloc, fan, script, expected);
-    }
-}
-
 #[test]
 fn scripts_are_served(rt: HostRuntime) {
-    expect_texts(&rt, rt.alloc(), &SERVED)
+    for &(fan, script, expected) in &SERVED {
+        expect_text_by_all(&rt, rt.alloc(), fan, script, expected);
+    }
 }
 
 // The first leaf of two is emptied by deletions, and a page that begins there goes on over it.
@@ -142,21 +134,13 @@ fn expect_refusal<R: Threads + Wait + Abort + Sync>(
     served(rt, alloc, script.as_bytes(), &settings).expect_refusal(rt, refusal)
 }
 
-fn expect_refusals<R: Threads + Wait + Abort + Sync>(
-    rt: &R,
-    alloc: Global,
-    cases: &[(&str, u64, RecordError, u8)],
-) {
-    for &(script, row, error, code) in cases {
-        let refusal = ServeError::Script(ScriptError::Row(row, error));
-        expect_refusal(rt, alloc, script, refusal);
-        same(rt, &refusal.code(), &code);
-    }
-}
-
 #[test]
 fn refused_scripts_write_nothing(rt: HostRuntime) {
-    expect_refusals(&rt, rt.alloc(), &REFUSED)
+    for &(script, row, error, code) in &REFUSED {
+        let refusal = ServeError::Script(ScriptError::Row(row, error));
+        expect_refusal(&rt, rt.alloc(), script, refusal);
+        same(&rt, &refusal.code(), &code);
+    }
 }
 
 const FIND: &str = "find,5,\n";
@@ -174,15 +158,12 @@ fn served_two_batches<R: Threads + Wait + Abort + Sync>(
 }
 
 #[test]
-fn a_scan_makes_room_for_another_batch(rt: HostRuntime) {
+fn a_scan_makes_room_for_one_batch_more(rt: HostRuntime) {
     let outcome = served_two_batches(&rt, rt.alloc(), 0);
     same(&rt, &outcome.end, &Ok(()));
     // Each find is answered by `absent`, and the scan by `end 0`.
     same(&rt, &outcome.output.len(), &(2 * 8192 * 7 + 6));
-}
-
-#[test]
-fn a_batch_of_one_operation_too_many_is_refused(rt: HostRuntime) {
+    // A batch of one operation too many is refused.
     let outcome = served_two_batches(&rt, rt.alloc(), 1);
     outcome.expect_refusal(&rt, ServeError::Script(ScriptError::TooMany(16386)));
 }

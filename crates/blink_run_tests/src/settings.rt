@@ -2,6 +2,7 @@
 use crate::batches::{OF_A_TABLE, OF_STEPS, expect_pages};
 use crate::calls::{locked, serve_from};
 use crate::fixtures::{given, same, same_for};
+use crate::row::Row;
 use blink_run::{CutKind, Driver, Gate, Open, ServeError, Settings, SettingsError, serve_index};
 use std::alloc::Global;
 use std::process::Abort;
@@ -18,13 +19,6 @@ fn expect_settings(rt: &impl Abort, workers: u8, fan: u8) {
     same(rt, &settings.driver(), &Driver::Locked);
 }
 
-#[test]
-fn settings_return_what_they_were_made_of(rt: HostRuntime) {
-    expect_settings(&rt, 1, 4);
-    expect_settings(&rt, 4, 32);
-    expect_settings(&rt, 64, 4);
-}
-
 fn expect_refused(rt: &impl Abort, workers: u8, fan: u8, refusal: SettingsError, code: u8) {
     let refused = Settings::new(workers, fan, CutKind::Residue, Driver::Locked);
     same(rt, &refused, &Err(refusal));
@@ -32,11 +26,18 @@ fn expect_refused(rt: &impl Abort, workers: u8, fan: u8, refusal: SettingsError,
 }
 
 #[test]
-fn settings_beyond_a_limit_are_refused(rt: HostRuntime) {
-    expect_refused(&rt, 0, 16, SettingsError::BadWorkers, 2);
-    expect_refused(&rt, 65, 3, SettingsError::BadWorkers, 2);
-    expect_refused(&rt, 64, 3, SettingsError::BadFan, 40);
-    expect_refused(&rt, 1, 33, SettingsError::BadFan, 40);
+fn settings_have_limits(rt: HostRuntime) {
+    for (workers, fan) in [(1, 4), (4, 32), (64, 4)] {
+        expect_settings(&rt, workers, fan);
+    }
+    for (workers, fan, refusal, code) in [
+        (0, 16, SettingsError::BadWorkers, 2),
+        (65, 3, SettingsError::BadWorkers, 2),
+        (64, 3, SettingsError::BadFan, 40),
+        (1, 33, SettingsError::BadFan, 40),
+    ] {
+        expect_refused(&rt, workers, fan, refusal, code);
+    }
 }
 
 // Counts the operations that are begun by the workers that are expected, in the order of the batch.
@@ -101,16 +102,27 @@ find,12297829382473034411,
 find,18446744073709551615,
 ";
 
-#[test]
-fn ranges_are_of_equal_width(rt: HostRuntime) {
-    let lanes = [0, 0, 1, 1, 2, 2];
-    expect_lanes(&rt, rt.alloc(), CutKind::Ranges, SIX_FINDS, &lanes)
-}
+// Cuts, scripts, and the workers of their operations.
+const LANES: [(&str, CutKind, &str, &[u8]); 2] = [
+    (
+        "ranges are of equal width",
+        CutKind::Ranges,
+        SIX_FINDS,
+        &[0, 0, 1, 1, 2, 2],
+    ),
+    (
+        "a key falls to the worker of its remainder",
+        CutKind::Residue,
+        "find,5,\nfind,5,\n",
+        &[2, 2],
+    ),
+];
 
 #[test]
-fn a_key_falls_to_the_worker_of_its_remainder(rt: HostRuntime) {
-    let script = "find,5,\nfind,5,\n";
-    expect_lanes(&rt, rt.alloc(), CutKind::Residue, script, &[2, 2])
+fn operations_fall_to_workers(rt: HostRuntime) {
+    for &(name, cut, script, lanes) in &LANES {
+        expect_lanes(&Row { rt: &rt, name }, rt.alloc(), cut, script, lanes);
+    }
 }
 
 // Keys 1 to 14 in order, by two batches and two parts between them that change nothing.

@@ -1,6 +1,7 @@
 //! Writers that fail once, and would go on.
 use crate::calls::{locked, replay_from, serve_from};
 use crate::fixtures::{are_bytes, prefix_of, same, same_for};
+use crate::row::Row;
 use blink_batch::{RecordError, ScriptError};
 use blink_run::{CutKind, Open, ServeError, Settings};
 use std::alloc::Global;
@@ -186,134 +187,135 @@ fn replay_to(
     replay_from(alloc, &mut script, writer, settings, &TWO_TURNS)
 }
 
-// The calls with each failure, and a writer that has room for the whole text.
-fn expect_writings<R: Threads + Wait + Abort + Sync>(
-    rt: &R,
-    alloc: Global,
-    writings: &[Writing<'_>],
-    failures: &[NamedFailure],
-) {
-    for writing in writings {
-        for failure in failures {
-            expect_writing(rt, alloc, writing, failure, writing.text.len());
+// Calls that end alike with each of these failures.
+struct Group<'a> {
+    name: &'a str,
+    // With room for each number of bytes below the whole text, or for the whole text.
+    broken_off: bool,
+    writings: &'a [Writing<'a>],
+    failures: &'a [NamedFailure],
+}
+
+fn expect_group<R: Threads + Wait + Abort + Sync>(rt: &R, alloc: Global, group: &Group<'_>) {
+    for writing in group.writings {
+        for failure in group.failures {
+            expect_rooms(rt, alloc, writing, failure, group.broken_off);
         }
     }
 }
 
-// The same with room for each number of bytes below that.
-fn expect_broken_off<R: Threads + Wait + Abort + Sync>(
+fn expect_rooms<R: Threads + Wait + Abort + Sync>(
     rt: &R,
     alloc: Global,
     writing: &Writing<'_>,
     failure: &NamedFailure,
+    broken_off: bool,
 ) {
     let length = writing.text.len();
+    if !broken_off {
+        expect_writing(rt, alloc, writing, failure, length);
+        return;
+    }
     for room in 0..length {
         expect_writing(rt, alloc, writing, failure, room);
     }
 }
 
-fn expect_all_broken_off<R: Threads + Wait + Abort + Sync>(
-    rt: &R,
-    alloc: Global,
-    writings: &[Writing<'_>],
-    failures: &[NamedFailure],
-) {
-    for writing in writings {
-        for failure in failures {
-            expect_broken_off(rt, alloc, writing, failure);
-        }
+const GROUPS: [Group<'static>; 4] = [
+    Group {
+        name: "a failed write is the last call",
+        broken_off: true,
+        writings: &[
+            Writing {
+                call: Call::Serve,
+                script: SCRIPT,
+                text: SERVED,
+                end: Err(ServeError::Output),
+                flushes: 0,
+            },
+            Writing {
+                call: Call::Replay,
+                script: SCRIPT,
+                text: REPLAYED,
+                end: Err(ServeError::Output),
+                flushes: 0,
+            },
+        ],
+        failures: &FAILED_WRITES,
+    },
+    // All is written, and then the flush goes wrong.
+    Group {
+        name: "a failed flush is reported",
+        broken_off: false,
+        writings: &[
+            Writing {
+                call: Call::Serve,
+                script: SCRIPT,
+                text: SERVED,
+                end: Err(ServeError::Output),
+                flushes: 1,
+            },
+            Writing {
+                call: Call::Replay,
+                script: SCRIPT,
+                text: REPLAYED,
+                end: Err(ServeError::Output),
+                flushes: 1,
+            },
+        ],
+        failures: &FAILED_FLUSHES,
+    },
+    // A writer with just enough room.
+    Group {
+        name: "a writer of single bytes is given all and flushed",
+        broken_off: false,
+        writings: &[
+            Writing {
+                call: Call::Serve,
+                script: SCRIPT,
+                text: SERVED,
+                end: Ok(()),
+                flushes: 1,
+            },
+            Writing {
+                call: Call::Replay,
+                script: SCRIPT,
+                text: REPLAYED,
+                end: Ok(()),
+                flushes: 1,
+            },
+        ],
+        failures: &TAKES_NOTHING,
+    },
+    // What is no script isn't even flushed.
+    Group {
+        name: "a refused script leaves the writer alone",
+        broken_off: false,
+        writings: &[
+            Writing {
+                call: Call::Serve,
+                script: NO_SCRIPT,
+                text: b"",
+                end: Err(REFUSAL),
+                flushes: 0,
+            },
+            Writing {
+                call: Call::Replay,
+                script: NO_SCRIPT,
+                text: b"",
+                end: Err(REFUSAL),
+                flushes: 0,
+            },
+        ],
+        failures: &FAILED_FLUSHES,
+    },
+];
+
+#[test]
+fn writers_that_fail_once(rt: HostRuntime) {
+    for group in &GROUPS {
+        let name = group.name;
+        expect_group(&Row { rt: &rt, name }, rt.alloc(), group);
     }
-}
-
-const BROKEN_OFF: [Writing<'static>; 2] = [
-    Writing {
-        call: Call::Serve,
-        script: SCRIPT,
-        text: SERVED,
-        end: Err(ServeError::Output),
-        flushes: 0,
-    },
-    Writing {
-        call: Call::Replay,
-        script: SCRIPT,
-        text: REPLAYED,
-        end: Err(ServeError::Output),
-        flushes: 0,
-    },
-];
-
-#[test]
-fn a_failed_write_is_the_last_call(rt: HostRuntime) {
-    expect_all_broken_off(&rt, rt.alloc(), &BROKEN_OFF, &FAILED_WRITES);
     same(&rt, &ServeError::Output.code(), &70);
-}
-
-// All is written, and then the flush goes wrong.
-const UNFLUSHED: [Writing<'static>; 2] = [
-    Writing {
-        call: Call::Serve,
-        script: SCRIPT,
-        text: SERVED,
-        end: Err(ServeError::Output),
-        flushes: 1,
-    },
-    Writing {
-        call: Call::Replay,
-        script: SCRIPT,
-        text: REPLAYED,
-        end: Err(ServeError::Output),
-        flushes: 1,
-    },
-];
-
-#[test]
-fn a_failed_flush_is_reported(rt: HostRuntime) {
-    expect_writings(&rt, rt.alloc(), &UNFLUSHED, &FAILED_FLUSHES)
-}
-
-// A writer with just enough room is given all, and is flushed.
-const WRITTEN: [Writing<'static>; 2] = [
-    Writing {
-        call: Call::Serve,
-        script: SCRIPT,
-        text: SERVED,
-        end: Ok(()),
-        flushes: 1,
-    },
-    Writing {
-        call: Call::Replay,
-        script: SCRIPT,
-        text: REPLAYED,
-        end: Ok(()),
-        flushes: 1,
-    },
-];
-
-#[test]
-fn a_writer_of_single_bytes_is_given_all_and_flushed(rt: HostRuntime) {
-    expect_writings(&rt, rt.alloc(), &WRITTEN, &TAKES_NOTHING)
-}
-
-// What is no script isn't even flushed.
-const UNWRITTEN: [Writing<'static>; 2] = [
-    Writing {
-        call: Call::Serve,
-        script: NO_SCRIPT,
-        text: b"",
-        end: Err(REFUSAL),
-        flushes: 0,
-    },
-    Writing {
-        call: Call::Replay,
-        script: NO_SCRIPT,
-        text: b"",
-        end: Err(REFUSAL),
-        flushes: 0,
-    },
-];
-
-#[test]
-fn a_refused_script_leaves_the_writer_alone(rt: HostRuntime) {
-    expect_writings(&rt, rt.alloc(), &UNWRITTEN, &FAILED_FLUSHES)
 }

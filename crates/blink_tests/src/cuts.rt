@@ -1,17 +1,51 @@
 //! Lanes, and cuts of batches.
+use crate::fixtures::row::Row;
 use crate::fixtures::worlds::batch_of;
-use crate::fixtures::{given, is_told, same, same_for};
+use crate::fixtures::{given, same, same_for};
 use blink_batch::{Batch, Cut, CutError, Lanes, Op};
 use std::alloc::Global;
 use std::process::Abort;
+
+// So many workers, and the worker of each operation.
+type Assigned<'a> = (u8, &'a [u8]);
+
+// What is so of a batch.
+#[derive(Clone, Copy)]
+enum Fact<'a> {
+    // Whether the one lanes are equal to the others.
+    AreEqual(Assigned<'a>, Assigned<'a>, bool),
+    // So many workers get these lanes by the remainders of the keys, or are refused.
+    ByResidue(u8, Result<&'a [u8], CutError>),
+    // The keys are cut at these bounds into these lanes, or the bounds are refused.
+    ByRanges(&'a [u64], Result<&'a [u8], CutError>),
+    // The lanes are taken, split keys or not, or they are refused.
+    Lanes(Assigned<'a>, Result<(), CutError>),
+    // The lanes are a cut of the batch, and the cut gives them back, or they are refused.
+    Cut(Assigned<'a>, Result<(), CutError>),
+    // Whether a cut of the batch into these lanes is one for the batch of these operations, too.
+    IsFor(Assigned<'a>, &'a [Op], bool),
+}
+
+fn is_so(rt: &impl Abort, alloc: Global, batch: &Batch, fact: Fact) {
+    match fact {
+        Fact::AreEqual(one, other, expected) => are_equal(rt, alloc, batch, one, other, expected),
+        Fact::ByResidue(workers, expected) => cuts_by_residue(rt, alloc, batch, workers, expected),
+        Fact::ByRanges(bounds, expected) => cuts_by_ranges(rt, alloc, batch, bounds, expected),
+        Fact::Lanes(assigned, expected) => takes_lanes(rt, alloc, batch, assigned, expected),
+        Fact::Cut(assigned, expected) => takes_cut(rt, alloc, batch, assigned, expected),
+        Fact::IsFor(assigned, ops, expected) => {
+            let cut = given(rt, cut_of(rt, alloc, batch, assigned));
+            same_for(rt, &cut.is_for(&batch_of(rt, alloc, ops)), &expected, &ops);
+        }
+    }
+}
 
 // The lanes, if they are some of the batch.
 fn lanes_of(
     rt: &impl Abort,
     alloc: Global,
     batch: &Batch,
-    workers: u8,
-    lanes: &[u8],
+    (workers, lanes): Assigned,
 ) -> Result<Lanes, CutError> {
     Lanes::new(batch, workers, given(rt, lanes.to_vec(alloc)))
 }
@@ -21,236 +55,116 @@ fn cut_of(
     rt: &impl Abort,
     alloc: Global,
     batch: &Batch,
-    workers: u8,
-    lanes: &[u8],
+    (workers, lanes): Assigned,
 ) -> Result<Cut, CutError> {
     Cut::from_lanes(batch, workers, given(rt, lanes.to_vec(alloc)))
 }
 
-const TWO_KEYS: [Op; 2] = [Op::Insert(5, 50), Op::Find(6)];
-
-// Whether the lanes 0 and 1 of two workers are equal to these.
-const COMPARED: [(u8, &[u8], bool); 3] = [
-    (2, &[0, 1], true),
-    (3, &[0, 1], false),
-    (2, &[1, 1], false),
-];
-
-// Whether the lanes are equal to these.
-fn is_equal(
+fn are_equal(
     rt: &impl Abort,
     alloc: Global,
     batch: &Batch,
-    lanes: &Lanes,
-    (workers, others, expected): (u8, &[u8], bool),
+    one: Assigned,
+    other: Assigned,
+    expected: bool,
 ) {
-    let other = given(rt, lanes_of(rt, alloc, batch, workers, others));
-    let equal = *lanes == other;
-    same_for(rt, &equal, &expected, &(workers, others));
+    let lanes = given(rt, lanes_of(rt, alloc, batch, one));
+    let others = given(rt, lanes_of(rt, alloc, batch, other));
+    same_for(rt, &(lanes == others), &expected, &other);
 }
 
-fn are_compared(rt: &impl Abort, alloc: Global, batch: &Batch, lanes: &Lanes) {
-    for &compared in &COMPARED {
-        is_equal(rt, alloc, batch, lanes, compared);
+fn cuts_by_residue(
+    rt: &impl Abort,
+    alloc: Global,
+    batch: &Batch,
+    workers: u8,
+    expected: Result<&[u8], CutError>,
+) {
+    match Cut::by_residue(alloc, batch, workers) {
+        Ok(cut) => {
+            same_for(rt, &Ok(cut.lanes()), &expected, &workers);
+            same(rt, &cut.workers(), &workers);
+        }
+        Err(refusal) => same_for(rt, &Err(refusal), &expected, &workers),
     }
 }
 
-#[test]
-fn lanes_are_equal_with_their_workers(rt: HostRuntime) {
-    let alloc = rt.alloc();
-    let batch = batch_of(&rt, alloc, &TWO_KEYS);
-    let lanes = given(&rt, lanes_of(&rt, alloc, &batch, 2, &[0, 1]));
-    are_compared(&rt, alloc, &batch, &lanes);
-}
-
-// The batch is cut among so many workers, by the remainder of each key, into these lanes.
-fn cuts_by_residue(rt: &impl Abort, alloc: Global, batch: &Batch, workers: u8, lanes: &[u8]) {
-    let cut = given(rt, Cut::by_residue(alloc, batch, workers));
-    same_for(rt, &cut.lanes(), &lanes, &workers);
-    same(rt, &cut.workers(), &workers);
-}
-
-const KEYS_5_AND_8: [Op; 3] = [Op::Insert(5, 6), Op::Find(8), Op::Find(5)];
-
-// So many workers are refused.
-fn refuses_workers(rt: &impl Abort, alloc: Global, batch: &Batch, workers: u8) {
-    let refused = Cut::by_residue(alloc, batch, workers).err();
-    same_for(rt, &refused, &Some(CutError::BadWorkers), &workers);
-}
-
-#[test]
-fn cuts_by_the_remainder_of_the_key(rt: HostRuntime) {
-    let alloc = rt.alloc();
-    let batch = batch_of(&rt, alloc, &KEYS_5_AND_8);
-    cuts_by_residue(&rt, alloc, &batch, 3, &[2, 2, 2]);
-    cuts_by_residue(&rt, alloc, &batch, 64, &[5, 8, 5]);
-    refuses_workers(&rt, alloc, &batch, 0);
-    refuses_workers(&rt, alloc, &batch, 65);
-    same(&rt, &CutError::BadWorkers.code(), &2);
-    same(&rt, &CutError::OutOfMemory.code(), &7);
-}
-
-// The batch is cut at these bounds into these lanes.
-fn cuts_by_ranges(rt: &impl Abort, alloc: Global, batch: &Batch, bounds: &[u64], lanes: &[u8]) {
-    let cut = given(rt, Cut::by_ranges(alloc, batch, bounds));
-    same_for(rt, &cut.lanes(), &lanes, &bounds);
-    let workers = bounds.len().wrapping_add(1);
-    same(rt, &usize::from(cut.workers()), &workers);
-}
-
-// The bounds are refused for this batch.
-fn refuses_ranges(
+fn cuts_by_ranges(
     rt: &impl Abort,
     alloc: Global,
     batch: &Batch,
     bounds: &[u64],
-    refusal: CutError,
+    expected: Result<&[u8], CutError>,
 ) {
-    let refused = Cut::by_ranges(alloc, batch, bounds).err();
-    same_for(rt, &refused, &Some(refusal), &bounds);
-}
-
-const FOUR_KEYS: [Op; 4] = [Op::Find(0), Op::Delete(3), Op::Find(4), Op::Find(u64::MAX)];
-
-// Bounds, and the lanes of the four keys.
-const RANGES: [(&[u64], &[u8]); 4] = [
-    (&[], &[0, 0, 0, 0]),
-    (&[3], &[0, 0, 1, 1]),
-    (&[0, 3, 7], &[0, 1, 2, 3]),
-    (&[1, 2, u64::MAX], &[0, 2, 2, 2]),
-];
-
-fn cuts_four_keys(rt: &impl Abort, alloc: Global, batch: &Batch) {
-    for &(bounds, lanes) in &RANGES {
-        cuts_by_ranges(rt, alloc, batch, bounds, lanes);
+    match Cut::by_ranges(alloc, batch, bounds) {
+        Ok(cut) => {
+            same_for(rt, &Ok(cut.lanes()), &expected, &bounds);
+            let workers = bounds.len().wrapping_add(1);
+            same_for(rt, &usize::from(cut.workers()), &workers, &bounds);
+        }
+        Err(refusal) => same_for(rt, &Err(refusal), &expected, &bounds),
     }
 }
 
-#[test]
-fn cuts_by_ranges_of_keys(rt: HostRuntime) {
-    let alloc = rt.alloc();
-    let batch = batch_of(&rt, alloc, &[Op::Insert(9, 1), Op::Insert(10, 1)]);
-    cuts_by_ranges(&rt, alloc, &batch, &[9], &[0, 1]);
-    let batch = batch_of(&rt, alloc, &FOUR_KEYS);
-    cuts_four_keys(&rt, alloc, &batch);
-    refuses_ranges(&rt, alloc, &batch, &[9, 9], CutError::BadBounds);
-    refuses_ranges(&rt, alloc, &batch, &[2, 4, 3], CutError::BadBounds);
+fn takes_lanes(
+    rt: &impl Abort,
+    alloc: Global,
+    batch: &Batch,
+    assigned: Assigned,
+    expected: Result<(), CutError>,
+) {
+    match lanes_of(rt, alloc, batch, assigned) {
+        Ok(lanes) => {
+            same_for(rt, &Ok(()), &expected, &assigned);
+            are(rt, &lanes, assigned);
+        }
+        Err(refusal) => same_for(rt, &Err(refusal), &expected, &assigned),
+    }
 }
 
-// With 63 bounds there are 64 workers; with one bound more there would be too many, which is told before the order of the bounds.
-#[test]
-fn cuts_by_ranges_have_64_workers_at_most(rt: HostRuntime) {
-    let alloc = rt.alloc();
-    let batch = batch_of(&rt, alloc, &FOUR_KEYS);
-    let mut most = Vec::new(alloc);
-    for bound in 0..63 {
-        given(&rt, most.push(bound));
+fn takes_cut(
+    rt: &impl Abort,
+    alloc: Global,
+    batch: &Batch,
+    assigned: Assigned,
+    expected: Result<(), CutError>,
+) {
+    match cut_of(rt, alloc, batch, assigned) {
+        Ok(cut) => {
+            same_for(rt, &Ok(()), &expected, &assigned);
+            same(rt, &(cut.workers(), cut.is_for(batch)), &(assigned.0, true));
+            are(rt, &cut.into_lanes(), assigned);
+        }
+        Err(refusal) => same_for(rt, &Err(refusal), &expected, &assigned),
     }
-    cuts_by_ranges(&rt, alloc, &batch, &most, &[0, 3, 4, 63]);
-    given(&rt, most.push(5));
-    refuses_ranges(&rt, alloc, &batch, &most, CutError::BadWorkers);
 }
 
 // The lanes have so many workers and these numbers.
-fn are(rt: &impl Abort, lanes: &Lanes, workers: u8, expected: &[u8]) {
-    same(rt, &lanes.lanes(), &expected);
-    same(rt, &lanes.workers(), &workers);
+fn are(rt: &impl Abort, lanes: &Lanes, assigned: Assigned) {
+    same(rt, &(lanes.workers(), lanes.lanes()), &assigned);
 }
 
-// The lanes are taken, split keys or not.
-fn takes_lanes(rt: &impl Abort, alloc: Global, batch: &Batch, workers: u8, expected: &[u8]) {
-    let lanes = given(rt, lanes_of(rt, alloc, batch, workers, expected));
-    are(rt, &lanes, workers, expected);
+// What is so of the batch of these operations.
+struct Case<'a> {
+    name: &'a str,
+    ops: &'a [Op],
+    facts: &'a [Fact<'a>],
 }
 
-// So many workers and lanes, and why they are refused.
-type Refused<'a> = (u8, &'a [u8], CutError);
-
-// The lanes are refused, as lanes of any assignment.
-const REFUSED_LANES: [Refused; 6] = [
-    (2, &[0, 2], CutError::BadLane(1)),
-    (2, &[2, 2], CutError::BadLane(0)),
-    (2, &[2], CutError::WrongLength),
-    (2, &[0, 0, 0], CutError::WrongLength),
-    (0, &[2], CutError::BadWorkers),
-    (65, &[0, 0], CutError::BadWorkers),
-];
-
-fn refuses_lanes(rt: &impl Abort, alloc: Global, batch: &Batch, case: &Refused) {
-    let refused = lanes_of(rt, alloc, batch, case.0, case.1).err();
-    same_for(rt, &refused, &Some(case.2), case);
-}
-
-fn refuses_all_lanes(rt: &impl Abort, alloc: Global, batch: &Batch) {
-    for case in &REFUSED_LANES {
-        refuses_lanes(rt, alloc, batch, case);
+fn are_so(rt: &impl Abort, alloc: Global, case: &Case) {
+    let batch = batch_of(rt, alloc, case.ops);
+    for &fact in case.facts {
+        is_so(rt, alloc, &batch, fact);
     }
 }
 
-#[test]
-fn lanes_may_split_a_key(rt: HostRuntime) {
-    let alloc = rt.alloc();
-    let batch = batch_of(&rt, alloc, &[Op::Insert(5, 6), Op::Delete(5)]);
-    takes_lanes(&rt, alloc, &batch, 2, &[1, 0]);
-    takes_lanes(&rt, alloc, &batch, 64, &[63, 63]);
-    refuses_all_lanes(&rt, alloc, &batch);
-}
+const TWO_KEYS: &[Op] = &[Op::Insert(5, 50), Op::Find(6)];
 
-const REFUSALS: [(CutError, u8, &str); 5] = [
-    (CutError::BadWorkers, 2, "bad number of workers"),
-    (CutError::WrongLength, 3, "wrong number of lanes"),
-    (CutError::BadLane(1), 4, "operation 1: bad lane"),
-    (CutError::SplitKey(1), 5, "operation 1: split key"),
-    (CutError::BadBounds, 6, "bad bounds"),
-];
+const KEYS_5_AND_8: &[Op] = &[Op::Insert(5, 6), Op::Find(8), Op::Find(5)];
 
-#[test]
-fn refusals_have_numbers_and_texts(rt: HostRuntime) {
-    for &(refusal, code, text) in &REFUSALS {
-        is_told(&rt, rt.alloc(), &refusal, (refusal.code(), code), text);
-    }
-}
+const FOUR_KEYS: &[Op] = &[Op::Find(0), Op::Delete(3), Op::Find(4), Op::Find(u64::MAX)];
 
-// The lanes are refused as a cut.
-fn refuses_cut(rt: &impl Abort, alloc: Global, batch: &Batch, case: &Refused) {
-    let refused = cut_of(rt, alloc, batch, case.0, case.1).err();
-    same_for(rt, &refused, &Some(case.2), case);
-}
-
-// Each of them is.
-fn refuses_cuts(rt: &impl Abort, alloc: Global, batch: &Batch, cases: &[Refused]) {
-    for case in cases {
-        refuses_cut(rt, alloc, batch, case);
-    }
-}
-
-// The lanes are a cut of the batch, and the cut gives them back.
-fn is_cut_from(rt: &impl Abort, alloc: Global, batch: &Batch, workers: u8, expected: &[u8]) {
-    let cut = given(rt, cut_of(rt, alloc, batch, workers, expected));
-    same(rt, &cut.workers(), &workers);
-    same(rt, &cut.is_for(batch), &true);
-    are(rt, &cut.into_lanes(), workers, expected);
-}
-
-const REFUSED_CUTS: [Refused; 6] = [
-    (2, &[0, 1], CutError::SplitKey(1)),
-    (2, &[0, 2], CutError::BadLane(1)),
-    (2, &[0], CutError::WrongLength),
-    (2, &[0, 0, 0], CutError::WrongLength),
-    (0, &[0], CutError::BadWorkers),
-    (65, &[0, 1], CutError::BadWorkers),
-];
-
-#[test]
-fn cuts_from_lanes_split_no_key(rt: HostRuntime) {
-    let alloc = rt.alloc();
-    let batch = batch_of(&rt, alloc, &[Op::Insert(5, 50), Op::Find(5)]);
-    refuses_cuts(&rt, alloc, &batch, &REFUSED_CUTS);
-    takes_lanes(&rt, alloc, &batch, 2, &[0, 1]);
-    is_cut_from(&rt, alloc, &batch, 2, &[0, 0])
-}
-
-const THREE_TIMES_7: [Op; 6] = [
+const THREE_TIMES_7: &[Op] = &[
     Op::Find(7),
     Op::Insert(5, 1),
     Op::Delete(7),
@@ -259,18 +173,119 @@ const THREE_TIMES_7: [Op; 6] = [
     Op::Insert(7, 2),
 ];
 
-// The lanes of 64 workers split a key, which is seen at this place.
-const FIRST_SPLITS: [Refused; 4] = [
-    (64, &[0, 1, 0, 2, 1, 0], CutError::SplitKey(3)),
-    (64, &[0, 1, 0, 1, 1, 2], CutError::SplitKey(4)),
-    (64, &[0, 1, 0, 1, 0, 63], CutError::SplitKey(5)),
-    (64, &[0, 0, 1, 1, 0, 0], CutError::SplitKey(2)),
+// Two workers with an operation each.
+const ONE_EACH: Assigned = (2, &[0, 1]);
+
+const CASES: [Case; 8] = [
+    Case {
+        name: "lanes are equal with their workers",
+        ops: TWO_KEYS,
+        facts: &[
+            Fact::AreEqual(ONE_EACH, (2, &[0, 1]), true),
+            Fact::AreEqual(ONE_EACH, (3, &[0, 1]), false),
+            Fact::AreEqual(ONE_EACH, (2, &[1, 1]), false),
+        ],
+    },
+    Case {
+        name: "cuts by the remainder of the key",
+        ops: KEYS_5_AND_8,
+        facts: &[
+            Fact::ByResidue(3, Ok(&[2, 2, 2])),
+            Fact::ByResidue(64, Ok(&[5, 8, 5])),
+            Fact::ByResidue(0, Err(CutError::BadWorkers)),
+            Fact::ByResidue(65, Err(CutError::BadWorkers)),
+        ],
+    },
+    Case {
+        name: "cuts by ranges of keys: two keys",
+        ops: &[Op::Insert(9, 1), Op::Insert(10, 1)],
+        facts: &[Fact::ByRanges(&[9], Ok(&[0, 1]))],
+    },
+    Case {
+        name: "cuts by ranges of keys: four keys",
+        ops: FOUR_KEYS,
+        facts: &[
+            Fact::ByRanges(&[], Ok(&[0, 0, 0, 0])),
+            Fact::ByRanges(&[3], Ok(&[0, 0, 1, 1])),
+            Fact::ByRanges(&[0, 3, 7], Ok(&[0, 1, 2, 3])),
+            Fact::ByRanges(&[1, 2, u64::MAX], Ok(&[0, 2, 2, 2])),
+            Fact::ByRanges(&[9, 9], Err(CutError::BadBounds)),
+            Fact::ByRanges(&[2, 4, 3], Err(CutError::BadBounds)),
+        ],
+    },
+    Case {
+        name: "lanes may split a key",
+        ops: &[Op::Insert(5, 6), Op::Delete(5)],
+        facts: &[
+            Fact::Lanes((2, &[1, 0]), Ok(())),
+            Fact::Lanes((64, &[63, 63]), Ok(())),
+            // The lanes are refused, as lanes of any assignment.
+            Fact::Lanes((2, &[0, 2]), Err(CutError::BadLane(1))),
+            Fact::Lanes((2, &[2, 2]), Err(CutError::BadLane(0))),
+            Fact::Lanes((2, &[2]), Err(CutError::WrongLength)),
+            Fact::Lanes((2, &[0, 0, 0]), Err(CutError::WrongLength)),
+            Fact::Lanes((0, &[2]), Err(CutError::BadWorkers)),
+            Fact::Lanes((65, &[0, 0]), Err(CutError::BadWorkers)),
+        ],
+    },
+    Case {
+        name: "cuts from lanes split no key",
+        ops: &[Op::Insert(5, 50), Op::Find(5)],
+        facts: &[
+            Fact::Cut((2, &[0, 1]), Err(CutError::SplitKey(1))),
+            Fact::Cut((2, &[0, 2]), Err(CutError::BadLane(1))),
+            Fact::Cut((2, &[0]), Err(CutError::WrongLength)),
+            Fact::Cut((2, &[0, 0, 0]), Err(CutError::WrongLength)),
+            Fact::Cut((0, &[0]), Err(CutError::BadWorkers)),
+            Fact::Cut((65, &[0, 1]), Err(CutError::BadWorkers)),
+            Fact::Lanes((2, &[0, 1]), Ok(())),
+            Fact::Cut((2, &[0, 0]), Ok(())),
+        ],
+    },
+    // The lanes of 64 workers split a key, which is seen at this place.
+    Case {
+        name: "the first split key is reported",
+        ops: THREE_TIMES_7,
+        facts: &[
+            Fact::Cut((64, &[0, 1, 0, 2, 1, 0]), Err(CutError::SplitKey(3))),
+            Fact::Cut((64, &[0, 1, 0, 1, 1, 2]), Err(CutError::SplitKey(4))),
+            Fact::Cut((64, &[0, 1, 0, 1, 0, 63]), Err(CutError::SplitKey(5))),
+            Fact::Cut((64, &[0, 0, 1, 1, 0, 0]), Err(CutError::SplitKey(2))),
+        ],
+    },
+    Case {
+        name: "cuts are for batches",
+        ops: TWO_KEYS,
+        facts: &[
+            Fact::IsFor(ONE_EACH, TWO_KEYS, true),
+            Fact::IsFor(ONE_EACH, &[Op::Delete(6), Op::Find(5)], true),
+            Fact::IsFor(ONE_EACH, &[Op::Insert(5, 50), Op::Find(5)], false),
+            Fact::IsFor(ONE_EACH, &[Op::Insert(5, 50)], false),
+            Fact::IsFor(ONE_EACH, &[Op::Find(5), Op::Find(6), Op::Find(7)], false),
+        ],
+    },
 ];
 
 #[test]
-fn the_first_split_key_is_reported(rt: HostRuntime) {
-    let batch = batch_of(&rt, rt.alloc(), &THREE_TIMES_7);
-    refuses_cuts(&rt, rt.alloc(), &batch, &FIRST_SPLITS);
+fn batches_are_cut(rt: HostRuntime) {
+    for case in &CASES {
+        let name = case.name;
+        are_so(&Row { rt: &rt, name }, rt.alloc(), case);
+    }
+}
+
+// With 63 bounds there are 64 workers; with one bound more there would be too many, which is told before the order of the bounds.
+#[test]
+fn cuts_by_ranges_have_64_workers_at_most(rt: HostRuntime) {
+    let alloc = rt.alloc();
+    let batch = batch_of(&rt, alloc, FOUR_KEYS);
+    let mut most = Vec::new(alloc);
+    for bound in 0..63 {
+        given(&rt, most.push(bound));
+    }
+    cuts_by_ranges(&rt, alloc, &batch, &most, Ok(&[0, 3, 4, 63]));
+    given(&rt, most.push(5));
+    cuts_by_ranges(&rt, alloc, &batch, &most, Err(CutError::BadWorkers));
 }
 
 // How many keys the full batch has.
@@ -305,36 +320,8 @@ fn lanes_with(rt: &impl Abort, alloc: Global, last: u8) -> Vec<u8> {
 fn split_keys_are_reported_in_a_full_batch(rt: HostRuntime) {
     let alloc = rt.alloc();
     let batch = full_batch(&rt, alloc);
-    is_cut_from(&rt, alloc, &batch, 2, &lanes_with(&rt, alloc, 0));
-    let lanes = lanes_with(&rt, alloc, 1);
-    let refused = cut_of(&rt, alloc, &batch, 2, &lanes).err();
-    same(&rt, &refused, &Some(CutError::SplitKey(8191)));
-}
-
-// Whether the cut of the two keys is one for the batch of these operations, too.
-const OTHERS: [(&[Op], bool); 5] = [
-    (&TWO_KEYS, true),
-    (&[Op::Delete(6), Op::Find(5)], true),
-    (&[Op::Insert(5, 50), Op::Find(5)], false),
-    (&[Op::Insert(5, 50)], false),
-    (&[Op::Find(5), Op::Find(6), Op::Find(7)], false),
-];
-
-fn is_for(rt: &impl Abort, alloc: Global, cut: &Cut, (ops, expected): (&[Op], bool)) {
-    let batch = batch_of(rt, alloc, ops);
-    same_for(rt, &cut.is_for(&batch), &expected, &ops);
-}
-
-fn is_for_others(rt: &impl Abort, alloc: Global, cut: &Cut) {
-    for &other in &OTHERS {
-        is_for(rt, alloc, cut, other);
+    for (last, expected) in [(0, Ok(())), (1, Err(CutError::SplitKey(8191)))] {
+        let lanes = lanes_with(&rt, alloc, last);
+        takes_cut(&rt, alloc, &batch, (2, &lanes), expected);
     }
-}
-
-#[test]
-fn cuts_are_for_batches(rt: HostRuntime) {
-    let alloc = rt.alloc();
-    let batch = batch_of(&rt, alloc, &TWO_KEYS);
-    let cut = given(&rt, cut_of(&rt, alloc, &batch, 2, &[0, 1]));
-    is_for_others(&rt, alloc, &cut);
 }

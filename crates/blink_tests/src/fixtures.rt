@@ -5,6 +5,7 @@
 //! proved once for all types. Cases that differ in values alone stand in a constant, through which one function goes: a function
 //! for each case, a long literal in a function's body, and a loop beside values that are dropped at its end cost seconds.
 pub mod pages;
+pub mod row;
 pub mod stores;
 pub mod worlds;
 
@@ -37,18 +38,6 @@ pub fn same_for<T: PartialEq + Debug, C: Debug>(
 pub fn is_shown<T: Display>(rt: &impl Abort, alloc: Global, value: &T, text: &str) {
     let shown = given(rt, format!(in alloc; "{value}"));
     assert_eq!(rt; shown.as_str(), text);
-}
-
-// The code and the text of a refusal.
-pub fn is_told<T: Display>(
-    rt: &impl Abort,
-    alloc: Global,
-    refusal: &T,
-    (given, code): (u8, u8),
-    text: &str,
-) {
-    same(rt, &given, &code);
-    is_shown(rt, alloc, refusal, text);
 }
 
 // The entries are these keys with these pointers.

@@ -19,7 +19,7 @@ mod page;
 #[cfg(test)]
 mod plain;
 #[cfg(test)]
-mod rest;
+mod refusals;
 #[cfg(test)]
 mod rows;
 #[cfg(test)]

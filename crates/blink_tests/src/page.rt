@@ -3,6 +3,7 @@ use crate::fixtures::pages::{
     Bounds, are_halves, halves, has_bounds, has_entries, leaf_of, post_to, put_into, split_leaf,
     swap_in, take_from,
 };
+use crate::fixtures::row::Row;
 use crate::fixtures::{same, same_for};
 use blink_page::{GREATEST_KEY, Page, Post, Prime, Put, Way};
 use std::process::Abort;
@@ -19,8 +20,105 @@ struct Split<'a> {
     upper: &'a [(u64, u64)],
 }
 
+// The page that a story begins with.
+#[derive(Clone, Copy)]
+enum Start<'a> {
+    // The only leaf, with these keys, each with ten times the key.
+    Leaf(&'a [u64]),
+    // The lower half of the leaf with the keys 1 to 4, which gets 5 and the new page 2.
+    Lower,
+    // The root of level 1 over these two pages, with the separator between them.
+    Root(Root),
+}
+
+#[derive(Clone, Copy)]
+enum Root {
+    // Over the pages 1 and 2, up to key 3.
+    UpTo3,
+    // Over the pages 9 and 5, up to key 1.
+    UpTo1,
+}
+
+// A call of a page, and what it has to give.
+#[derive(Clone, Copy)]
+enum Step<'a> {
+    Put(u64, u64, Put),
+    Post(u64, u32, Post),
+    Take(u64, Option<u64>),
+    Swap(u64, u64, Option<u64>),
+    Look(u64, Option<u64>),
+    Way(u64, Way),
+    Entries(&'a [(u64, u64)]),
+    Bounds(u8, Bounds),
+    // The page splits so.
+    Split(Split<'a>),
+    // A copy of the page is the same.
+    Copied,
+    // The halves are the same, made one by one, where the page gets this entry and the new page this number.
+    Halves((u64, u64), u32),
+    // The page is assigned the lower or the upper half of that leaf.
+    AssignLower,
+    AssignUpper,
+}
+
+// What happens to a page.
+struct Story<'a> {
+    name: &'a str,
+    start: Start<'a>,
+    steps: &'a [Step<'a>],
+}
+
+fn goes(rt: &impl Abort, story: &Story) {
+    let mut page = page_of(rt, story.start);
+    for &step in story.steps {
+        takes(rt, &mut page, step);
+    }
+}
+
+fn page_of(rt: &impl Abort, start: Start) -> Page {
+    match start {
+        Start::Leaf(keys) => leaf_of(rt, keys),
+        Start::Lower => split_leaf(rt).lower,
+        Start::Root(Root::UpTo3) => Page::root(1, 3, 1, 2),
+        Start::Root(Root::UpTo1) => Page::root(1, 1, 9, 5),
+    }
+}
+
+fn takes(rt: &impl Abort, page: &mut Page, step: Step) {
+    match step {
+        Step::Put(key, value, put) => same_for(rt, &put_into(rt, page, 4, key, value), &put, &key),
+        Step::Post(key, child, post) => same_for(rt, &post_to(rt, page, key, child), &post, &key),
+        Step::Take(key, value) => same_for(rt, &take_from(rt, page, key), &value, &key),
+        Step::Swap(key, value, before) => {
+            same_for(rt, &swap_in(rt, page, key, value), &before, &key);
+        }
+        Step::AssignLower => page.assign(&split_leaf(rt).lower),
+        Step::AssignUpper => page.assign(&split_leaf(rt).upper),
+        Step::Look(..) | Step::Way(..) | Step::Entries(_) => shows(rt, page, step),
+        Step::Bounds(..) | Step::Split(_) | Step::Halves(..) | Step::Copied => {
+            shows(rt, page, step);
+        }
+    }
+}
+
+// The step leaves the page as it is.
+fn shows(rt: &impl Abort, page: &Page, step: Step) {
+    match step {
+        Step::Look(key, value) => same_for(rt, &page.look(key), &value, &key),
+        Step::Way(key, way) => same_for(rt, &page.way(key), &way, &key),
+        Step::Entries(entries) => has_entries(rt, page, entries),
+        Step::Bounds(level, bounds) => has_bounds(rt, page, level, bounds),
+        Step::Split(split) => splits_into(rt, page, &split),
+        Step::Copied => same(rt, &page.copy(), page),
+        Step::Halves(entry, new) => {
+            are_halves(rt, &halves(rt, page, 4, entry, new), page, 4, entry, new);
+        }
+        _ => panic!(rt; "a step that changes a page"),
+    }
+}
+
 // A page of fan 4 splits so.
-fn splits_into(rt: &impl Abort, page: &Page, expected: &Split) -> Page {
+fn splits_into(rt: &impl Abort, page: &Page, expected: &Split) {
     let split = halves(rt, page, 4, expected.entry, expected.new);
     same(rt, &split.separator, &expected.separator);
     has_entries(rt, &split.lower, expected.lower);
@@ -29,130 +127,140 @@ fn splits_into(rt: &impl Abort, page: &Page, expected: &Split) -> Page {
     has_bounds(rt, &split.lower, expected.level, of_lower);
     let of_upper: Bounds = (Some(expected.separator), GREATEST_KEY, None);
     has_bounds(rt, &split.upper, expected.level, of_upper);
-    split.lower
 }
 
-const SPLIT_OF_LEAF: Split = Split {
-    level: 0,
-    entry: (5, 50),
-    new: 2,
-    separator: 3,
-    lower: &[(1, 10), (2, 20), (3, 30)],
-    upper: &[(4, 40), (5, 50)],
-};
-
-#[test]
-fn a_full_leaf_splits(rt: HostRuntime) {
-    let mut leaf = leaf_of(&rt, &[1, 2, 3, 4]);
-    same(&rt, &put_into(&rt, &mut leaf, 4, 4, 7), &Put::Present(40));
-    same(&rt, &put_into(&rt, &mut leaf, 4, 5, 50), &Put::Full);
-    let lower = splits_into(&rt, &leaf, &SPLIT_OF_LEAF);
-    same(&rt, &lower.way(3), &Way::Here);
-    same(&rt, &lower.way(4), &Way::Right(2));
-    same(&rt, &lower.way(0), &Way::Here);
-}
-
-#[test]
-fn a_page_is_assigned_another(rt: HostRuntime) {
-    let split = split_leaf(&rt);
-    let mut page = leaf_of(&rt, &[1, 2, 3, 4]).copy();
-    page.assign(&split.upper);
-    has_entries(&rt, &page, &[(4, 40), (5, 50)]);
-    has_bounds(&rt, &page, 0, (Some(3), GREATEST_KEY, None));
-    page.assign(&split.lower);
-    has_entries(&rt, &page, &[(1, 10), (2, 20), (3, 30)]);
-    has_bounds(&rt, &page, 0, (None, 3, Some(2)));
-}
-
-#[test]
-fn halves_are_the_same_one_by_one(rt: HostRuntime) {
-    let leaf = leaf_of(&rt, &[1, 2, 3, 4]);
-    let split = halves(&rt, &leaf, 4, (5, 50), 2);
-    are_halves(&rt, &split, &leaf, 4, (5, 50), 2);
-}
-
-#[test]
-fn the_least_and_the_greatest_key_are_found(rt: HostRuntime) {
-    let mut page = Page::leaf();
-    same(
-        &rt,
-        &put_into(&rt, &mut page, 4, GREATEST_KEY, 2),
-        &Put::Done,
-    );
-    same(&rt, &put_into(&rt, &mut page, 4, 0, 1), &Put::Done);
-    same(&rt, &page.look(0), &Some(1));
-    same(&rt, &page.look(GREATEST_KEY), &Some(2));
-
-    let before = page.copy();
-    same(&rt, &take_from(&rt, &mut page, 7), &None);
-    same(&rt, &page, &before);
-    same(&rt, &take_from(&rt, &mut page, 0), &Some(1));
-    has_entries(&rt, &page, &[(GREATEST_KEY, 2)]);
-}
-
-// The pointer of 2 gets another value in the place of this one.
-fn swaps(rt: &impl Abort, page: &mut Page, value: u64, before: u64) {
-    same(rt, &swap_in(rt, page, 2, value), &Some(before));
-    has_entries(rt, page, &[(1, 10), (2, value), (3, 30)]);
-}
-
-// The page has no such key, and stays as it is.
-fn swaps_nothing(rt: &impl Abort, page: &mut Page, absent: u64) {
-    let before = page.copy();
-    same(rt, &swap_in(rt, page, absent, 7), &None);
-    same(rt, page, &before);
-}
-
-#[test]
-fn a_value_is_swapped_in_its_place(rt: HostRuntime) {
-    let mut page = leaf_of(&rt, &[1, 2, 3]);
-    swaps(&rt, &mut page, 21, 20);
-    swaps(&rt, &mut page, 22, 21);
-    swaps(&rt, &mut page, 22, 22);
-    swaps_nothing(&rt, &mut page, 0);
-    swaps_nothing(&rt, &mut page, 4);
-}
-
-const INNER_ENTRIES: [(u64, u64); 4] = [(3, 1), (6, 2), (9, 4), (GREATEST_KEY, 5)];
-
-const SPLIT_OF_INNER_PAGE: Split = Split {
-    level: 1,
-    entry: (12, 6),
-    new: 7,
-    separator: 9,
-    lower: &[(3, 1), (6, 2), (9, 4)],
-    upper: &[(12, 5), (GREATEST_KEY, 6)],
-};
-
-#[test]
-fn a_full_inner_page_splits(rt: HostRuntime) {
-    let mut page = Page::root(1, 3, 1, 2);
-    same(&rt, &post_to(&rt, &mut page, 6, 4), &Post::Done);
-    same(&rt, &post_to(&rt, &mut page, 9, 5), &Post::Done);
-    has_entries(&rt, &page, &INNER_ENTRIES);
-    same(&rt, &page.way(3), &Way::Down(1));
-    same(&rt, &page.way(4), &Way::Down(2));
-    same(&rt, &page.way(10), &Way::Down(5));
-
-    same(&rt, &post_to(&rt, &mut page, 9, 6), &Post::Already);
-    same(&rt, &post_to(&rt, &mut page, 12, 6), &Post::Full);
-    splits_into(&rt, &page, &SPLIT_OF_INNER_PAGE);
-}
+const STORIES: [Story; 9] = [
+    Story {
+        name: "a full leaf splits",
+        start: Start::Leaf(&[1, 2, 3, 4]),
+        steps: &[
+            Step::Put(4, 7, Put::Present(40)),
+            Step::Put(5, 50, Put::Full),
+            Step::Split(Split {
+                level: 0,
+                entry: (5, 50),
+                new: 2,
+                separator: 3,
+                lower: &[(1, 10), (2, 20), (3, 30)],
+                upper: &[(4, 40), (5, 50)],
+            }),
+        ],
+    },
+    Story {
+        name: "a full leaf splits: ways of its lower half",
+        start: Start::Lower,
+        steps: &[
+            Step::Entries(&[(1, 10), (2, 20), (3, 30)]),
+            Step::Way(3, Way::Here),
+            Step::Way(4, Way::Right(2)),
+            Step::Way(0, Way::Here),
+        ],
+    },
+    Story {
+        name: "a page is assigned another",
+        start: Start::Leaf(&[1, 2, 3, 4]),
+        steps: &[
+            Step::Copied,
+            Step::AssignUpper,
+            Step::Copied,
+            Step::Entries(&[(4, 40), (5, 50)]),
+            Step::Bounds(0, (Some(3), GREATEST_KEY, None)),
+            Step::AssignLower,
+            Step::Entries(&[(1, 10), (2, 20), (3, 30)]),
+            Step::Bounds(0, (None, 3, Some(2))),
+        ],
+    },
+    Story {
+        name: "halves are the same one by one",
+        start: Start::Leaf(&[1, 2, 3, 4]),
+        steps: &[Step::Halves((5, 50), 2)],
+    },
+    Story {
+        name: "the least and the greatest key are found",
+        start: Start::Leaf(&[]),
+        steps: &[
+            Step::Put(GREATEST_KEY, 2, Put::Done),
+            Step::Put(0, 1, Put::Done),
+            Step::Look(0, Some(1)),
+            Step::Look(GREATEST_KEY, Some(2)),
+            Step::Copied,
+            // A key that isn't there leaves the page as it was.
+            Step::Take(7, None),
+            Step::Entries(&[(0, 1), (GREATEST_KEY, 2)]),
+            Step::Bounds(0, (None, GREATEST_KEY, None)),
+            Step::Take(0, Some(1)),
+            Step::Entries(&[(GREATEST_KEY, 2)]),
+        ],
+    },
+    Story {
+        name: "a value is swapped in its place",
+        start: Start::Leaf(&[1, 2, 3]),
+        steps: &[
+            Step::Swap(2, 21, Some(20)),
+            Step::Entries(&[(1, 10), (2, 21), (3, 30)]),
+            Step::Swap(2, 22, Some(21)),
+            Step::Entries(&[(1, 10), (2, 22), (3, 30)]),
+            Step::Swap(2, 22, Some(22)),
+            Step::Entries(&[(1, 10), (2, 22), (3, 30)]),
+            // Keys that aren't there leave the page as it was.
+            Step::Swap(0, 7, None),
+            Step::Entries(&[(1, 10), (2, 22), (3, 30)]),
+            Step::Bounds(0, (None, GREATEST_KEY, None)),
+            Step::Swap(4, 7, None),
+            Step::Entries(&[(1, 10), (2, 22), (3, 30)]),
+            Step::Bounds(0, (None, GREATEST_KEY, None)),
+        ],
+    },
+    Story {
+        name: "a full inner page splits",
+        start: Start::Root(Root::UpTo3),
+        steps: &[
+            Step::Post(6, 4, Post::Done),
+            Step::Post(9, 5, Post::Done),
+            Step::Entries(&[(3, 1), (6, 2), (9, 4), (GREATEST_KEY, 5)]),
+            Step::Way(3, Way::Down(1)),
+            Step::Way(4, Way::Down(2)),
+            Step::Way(10, Way::Down(5)),
+            Step::Post(9, 6, Post::Already),
+            Step::Post(12, 6, Post::Full),
+            Step::Split(Split {
+                level: 1,
+                entry: (12, 6),
+                new: 7,
+                separator: 9,
+                lower: &[(3, 1), (6, 2), (9, 4)],
+                upper: &[(12, 5), (GREATEST_KEY, 6)],
+            }),
+        ],
+    },
+    Story {
+        name: "one posting overtakes another: the greater first",
+        start: Start::Root(Root::UpTo1),
+        steps: &[
+            Step::Post(6, 7, Post::Done),
+            Step::Post(3, 8, Post::Done),
+            Step::Entries(&BOTH_POSTED),
+        ],
+    },
+    Story {
+        name: "one posting overtakes another: the less first",
+        start: Start::Root(Root::UpTo1),
+        steps: &[
+            Step::Post(3, 8, Post::Done),
+            Step::Post(6, 7, Post::Done),
+            Step::Entries(&BOTH_POSTED),
+        ],
+    },
+];
 
 const BOTH_POSTED: [(u64, u64); 4] = [(1, 9), (3, 5), (6, 8), (GREATEST_KEY, 7)];
 
-fn posts_both(rt: &impl Abort, postings: &[(u64, u32)]) {
-    let mut page = Page::root(1, 1, 9, 5);
-    for &(separator, child) in postings {
-        same(rt, &post_to(rt, &mut page, separator, child), &Post::Done);
-    }
-    has_entries(rt, &page, &BOTH_POSTED);
-}
-
 #[test]
-fn one_posting_overtakes_another(rt: HostRuntime) {
-    posts_both(&rt, &[(6, 7), (3, 8)]);
-    posts_both(&rt, &[(3, 8), (6, 7)]);
+fn pages_change(rt: HostRuntime) {
+    for story in &STORIES {
+        let name = story.name;
+        goes(&Row { rt: &rt, name }, story);
+    }
 }
 
 // A full leaf of this fan.
@@ -168,8 +276,8 @@ fn full_leaf(rt: &impl Abort, fan: u8) -> Page {
 fn parts_into(rt: &impl Abort, fan: u8, stay: usize, go: usize) {
     let page = full_leaf(rt, fan);
     let split = halves(rt, &page, fan, (100, 1), 2);
-    same_for(rt, &split.lower.items.len(), &stay, &fan);
-    same_for(rt, &split.upper.items.len(), &go, &fan);
+    let lengths = (split.lower.items.len(), split.upper.items.len());
+    same_for(rt, &lengths, &(stay, go), &fan);
 }
 
 // Fans, how many entries stay, and how many go.

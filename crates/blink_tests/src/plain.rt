@@ -1,4 +1,5 @@
 //! One thread's map, and the words of answers.
+use crate::fixtures::row::Row;
 use crate::fixtures::{are_entries, given, is_shown, same, same_for};
 use blink_batch::{Answer, Op, Plain};
 use std::alloc::Global;
@@ -25,12 +26,7 @@ fn applies(rt: &impl Abort, plain: &mut Plain, work: Work) {
     }
 }
 
-// The map has these keys with these pointers.
-fn has_entries(rt: &impl Abort, plain: &Plain, expected: &[(u64, u64)]) {
-    are_entries(rt, plain.entries(), expected);
-}
-
-// New maps carry the operations out with these answers, at once and in turn, and are the same then.
+// New maps carry the operations out with these answers, at once and in turn, and have the same entries then.
 fn answers_alike(rt: &impl Abort, alloc: Global, work: &Work) {
     let mut at_once = Plain::new(alloc);
     runs(rt, alloc, &mut at_once, *work);
@@ -67,7 +63,7 @@ struct Stage<'a> {
 // A new map goes through the stages.
 fn goes(rt: &impl Abort, alloc: Global, stages: &[Stage]) {
     let mut plain = Plain::new(alloc);
-    has_entries(rt, &plain, &[]);
+    are_entries(rt, plain.entries(), &[]);
     goes_through(rt, alloc, &mut plain, stages);
 }
 
@@ -84,7 +80,7 @@ fn goes_on(rt: &impl Abort, alloc: Global, plain: &mut Plain, stage: Stage) {
         applies(rt, plain, stage.work);
     }
     if let Some(entries) = stage.entries {
-        has_entries(rt, plain, entries);
+        are_entries(rt, plain.entries(), entries);
     }
 }
 
@@ -96,11 +92,6 @@ const ASCENDING: [Stage; 1] = [Stage {
     },
     entries: Some(&[(0, 1), (9, 3), (u64::MAX, 2)]),
 }];
-
-#[test]
-fn plain_keeps_its_entries_in_order(rt: HostRuntime) {
-    goes(&rt, rt.alloc(), &ASCENDING);
-}
 
 // Two entries more.
 const TWO_MORE: Stage = Stage {
@@ -152,11 +143,6 @@ const DELETIONS: [Stage; 4] = [
     },
 ];
 
-#[test]
-fn deletions_take_their_entries_away(rt: HostRuntime) {
-    goes(&rt, rt.alloc(), &DELETIONS);
-}
-
 const REPLACEMENTS: [Stage; 4] = [
     Stage {
         at_once: true,
@@ -197,11 +183,6 @@ const REPLACEMENTS: [Stage; 4] = [
     },
 ];
 
-#[test]
-fn replacements_change_what_is_there(rt: HostRuntime) {
-    goes(&rt, rt.alloc(), &REPLACEMENTS);
-}
-
 // An exchange that finds the pointer that it expects, one that finds another, and one that finds none.
 const EXCHANGES: [Stage; 2] = [
     Stage {
@@ -233,11 +214,6 @@ const EXCHANGES: [Stage; 2] = [
         entries: Some(&[(7, 2)]),
     },
 ];
-
-#[test]
-fn exchanges_change_what_is_expected(rt: HostRuntime) {
-    goes(&rt, rt.alloc(), &EXCHANGES);
-}
 
 // A deletion that finds another pointer than it expects, one that finds none, and one that finds the expected one.
 const EXACT_DELETIONS: [Stage; 2] = [
@@ -281,9 +257,19 @@ const EXACT_DELETIONS: [Stage; 2] = [
     },
 ];
 
+const STAGES: [(&str, &[Stage]); 5] = [
+    ("plain keeps its entries in order", &ASCENDING),
+    ("deletions take their entries away", &DELETIONS),
+    ("replacements change what is there", &REPLACEMENTS),
+    ("exchanges change what is expected", &EXCHANGES),
+    ("exact deletions remove what is expected", &EXACT_DELETIONS),
+];
+
 #[test]
-fn exact_deletions_remove_what_is_expected(rt: HostRuntime) {
-    goes(&rt, rt.alloc(), &EXACT_DELETIONS);
+fn plain_maps_go_through_stages(rt: HostRuntime) {
+    for &(name, stages) in &STAGES {
+        goes(&Row { rt: &rt, name }, rt.alloc(), stages);
+    }
 }
 
 const WORDS: [(Answer, &str); 6] = [

@@ -1,5 +1,6 @@
 //! Numbers and scripts.
-use crate::fixtures::{given, is_told, same, same_for};
+use crate::fixtures::row::Row;
+use crate::fixtures::{given, same, same_for};
 use blink_batch::{Op, Part, RecordError, ScriptError, read_number, read_script};
 use std::alloc::Global;
 use std::io;
@@ -57,43 +58,39 @@ fn numbers_are_spelled_in_one_way(rt: HostRuntime) {
 #[derive(Clone, Copy, Debug, PartialEq)]
 enum Wanted<'a> {
     Batch(&'a [Op]),
+    // A batch of so many finds, the last number, of this key.
+    Finds(u64, usize),
     Scan(u64, u64),
     Page(u64, u64),
 }
 
-// What the part is.
-fn seen(part: &Part) -> Wanted<'_> {
-    match part {
-        Part::Batch(batch) => Wanted::Batch(batch.ops()),
-        Part::Scan(lo, hi) => Wanted::Scan(*lo, *hi),
-        Part::Page(lo, n) => Wanted::Page(*lo, *n),
-    }
+// The part is this.
+fn is_part(rt: &impl Abort, part: &Part, wanted: &Wanted) {
+    let seen = match (part, *wanted) {
+        (Part::Batch(batch), Wanted::Finds(key, _)) => {
+            let others = batch.ops().iter().any(|op| *op != Op::Find(key));
+            assert!(rt; !others, "an operation that is no find of {key}");
+            Wanted::Finds(key, batch.len())
+        }
+        (Part::Batch(batch), _) => Wanted::Batch(batch.ops()),
+        (Part::Scan(lo, hi), _) => Wanted::Scan(*lo, *hi),
+        (Part::Page(lo, n), _) => Wanted::Page(*lo, *n),
+    };
+    same(rt, &seen, wanted);
 }
 
-// The text is a script of these parts.
-fn reads_as(rt: &impl Abort, alloc: Global, text: &[u8], expected: &[Wanted]) {
-    let script = given(rt, read_script(alloc, text));
-    are_parts(rt, &script.parts, expected);
-}
-
-// The parts are these.
-fn are_parts(rt: &impl Abort, parts: &[Part], expected: &[Wanted]) {
-    same(rt, &parts.len(), &expected.len());
-    for (part, wanted) in parts.iter().zip(expected.iter()) {
-        same(rt, &seen(part), wanted);
-    }
-}
-
-// A text and the parts that it has.
+// A text, and the parts that it has.
 struct Example<'a> {
     text: &'a [u8],
     parts: &'a [Wanted<'a>],
 }
 
-// Each text is a script of its parts.
-fn read_so(rt: &impl Abort, alloc: Global, examples: &[Example]) {
-    for example in examples {
-        reads_as(rt, alloc, example.text, example.parts);
+// The text is a script of these parts.
+fn reads_as(rt: &impl Abort, alloc: Global, text: &[u8], expected: &[Wanted]) {
+    let script = given(rt, read_script(alloc, text));
+    same(rt, &script.parts.len(), &expected.len());
+    for (part, wanted) in script.parts.iter().zip(expected.iter()) {
+        is_part(rt, part, wanted);
     }
 }
 
@@ -134,11 +131,6 @@ const RECORDS: [Example; 8] = [
     },
 ];
 
-#[test]
-fn scripts_are_read_record_by_record(rt: HostRuntime) {
-    read_so(&rt, rt.alloc(), &RECORDS);
-}
-
 const SCANS: [Example; 2] = [
     Example {
         text: b"insert,5,50\nscan,9,1\nscan,0,9\ninsert,6,60\n",
@@ -158,11 +150,6 @@ const SCANS: [Example; 2] = [
         ],
     },
 ];
-
-#[test]
-fn scans_stand_between_batches(rt: HostRuntime) {
-    read_so(&rt, rt.alloc(), &SCANS);
-}
 
 const PAGES: [Example; 2] = [
     Example {
@@ -185,21 +172,25 @@ const PAGES: [Example; 2] = [
     },
 ];
 
-#[test]
-fn pages_stand_between_batches(rt: HostRuntime) {
-    read_so(&rt, rt.alloc(), &PAGES);
-}
-
 // The text is refused.
 fn refuses(rt: &impl Abort, alloc: Global, text: &[u8], refusal: ScriptError) {
     let refused = read_script(alloc, text).err();
     same_for(rt, &refused, &Some(refusal), &text);
 }
 
-// Each text is refused for its first record.
-fn refuse_first_record(rt: &impl Abort, alloc: Global, error: RecordError, texts: &[&[u8]]) {
-    for &text in texts {
-        refuses(rt, alloc, text, ScriptError::Row(1, error));
+const READ: [(&str, &[Example]); 3] = [
+    ("scripts are read record by record", &RECORDS),
+    ("scans stand between batches", &SCANS),
+    ("pages stand between batches", &PAGES),
+];
+
+#[test]
+fn scripts_are_read(rt: HostRuntime) {
+    for &(name, examples) in &READ {
+        for example in examples {
+            let row = Row { rt: &rt, name };
+            reads_as(&row, rt.alloc(), example.text, example.parts);
+        }
     }
 }
 
@@ -219,17 +210,7 @@ const BAD_SHAPES: [&[u8]; 13] = [
     b"page,1,2,3",
 ];
 
-#[test]
-fn records_of_bad_shape_are_refused(rt: HostRuntime) {
-    refuse_first_record(&rt, rt.alloc(), RecordError::BadShape, &BAD_SHAPES);
-}
-
 const UNKNOWN: [&[u8]; 4] = [b"put,1,1", b"scans,1,2", b"replaced,7,1", b"pages,1,2"];
-
-#[test]
-fn unknown_operations_are_refused(rt: HostRuntime) {
-    refuse_first_record(&rt, rt.alloc(), RecordError::UnknownOperation, &UNKNOWN);
-}
 
 const BAD_NUMBERS: [&[u8]; 15] = [
     b"insert,05,1",
@@ -249,122 +230,137 @@ const BAD_NUMBERS: [&[u8]; 15] = [
     b"page,1,",
 ];
 
-#[test]
-fn bad_numbers_are_refused(rt: HostRuntime) {
-    refuse_first_record(&rt, rt.alloc(), RecordError::BadNumber, &BAD_NUMBERS);
-}
-
 const SECOND_UNKNOWN: &[u8] = b"find,1,\nput,1,1\nfind,5";
 
 const TENTH_BAD: &[u8] =
     b"find,1,\nscan,0,9\nfind,2,\nfind,3,\nscan,4,4\nscan,5,5\nfind,6,\nfind,7,\nfind,8,\nscan,9,x";
 
-#[test]
-fn the_first_refusal_is_the_answer(rt: HostRuntime) {
-    let alloc = rt.alloc();
-    let unknown = ScriptError::Row(2, RecordError::UnknownOperation);
-    refuses(&rt, alloc, SECOND_UNKNOWN, unknown);
-    let bad_number = ScriptError::Row(10, RecordError::BadNumber);
-    refuses(&rt, alloc, TENTH_BAD, bad_number);
-}
-
-// So many records of one find, and then a last one.
-fn long_script(rt: &impl Abort, alloc: Global, finds: usize, last: &str) -> String {
-    let mut text = String::new(alloc);
-    push_finds(rt, &mut text, finds, "find,1,\n");
-    given(rt, text.push_str(last));
-    text
-}
-
-// Adds so many records of this find.
-fn push_finds(rt: &impl Abort, text: &mut String, finds: usize, find: &str) {
-    for _ in 0..finds {
-        given(rt, text.push_str(find));
-    }
-}
-
-// So many finds and then a last record are refused.
-fn refuses_long(rt: &impl Abort, alloc: Global, finds: usize, last: &str, refusal: ScriptError) {
-    let text = long_script(rt, alloc, finds, last);
-    refuses(rt, alloc, text.as_bytes(), refusal);
-}
-
-#[test]
-fn one_operation_too_many_is_refused_after_its_own_checks(rt: HostRuntime) {
-    let alloc = rt.alloc();
-    let full = long_script(&rt, alloc, 8191, "find,1,");
-    let ops = given(&rt, vec![in alloc; Op::Find(1); 8192]);
-    reads_as(&rt, alloc, full.as_bytes(), &[Wanted::Batch(&ops)]);
-    let bad_number = ScriptError::Row(8193, RecordError::BadNumber);
-    refuses_long(&rt, alloc, 8192, "find,1,", ScriptError::TooMany(8193));
-    refuses_long(&rt, alloc, 8192, "find,x,", bad_number);
-    let unknown_behind = "find,1,\nput,1,1";
-    refuses_long(&rt, alloc, 8192, unknown_behind, ScriptError::TooMany(8193))
-}
-
-#[test]
-fn a_scan_makes_room_for_another_batch(rt: HostRuntime) {
-    let alloc = rt.alloc();
-    let mut text = long_script(&rt, alloc, 8192, "scan,3,8\n");
-    push_finds(&rt, &mut text, 8192, "find,2,\n");
-    let first = given(&rt, vec![in alloc; Op::Find(1); 8192]);
-    let second = given(&rt, vec![in alloc; Op::Find(2); 8192]);
-    let parts = [
-        Wanted::Batch(&first),
-        Wanted::Scan(3, 8),
-        Wanted::Batch(&second),
-    ];
-    reads_as(&rt, alloc, text.as_bytes(), &parts);
-    given(&rt, text.push_str("find,1,\n"));
-    refuses(&rt, alloc, text.as_bytes(), ScriptError::TooMany(16386));
-}
-
-#[test]
-fn a_page_makes_room_for_another_batch(rt: HostRuntime) {
-    let alloc = rt.alloc();
-    let mut text = long_script(&rt, alloc, 4096, "page,3,8\n");
-    given(&rt, text.push_str("find,2,\n"));
-    let first = given(&rt, vec![in alloc; Op::Find(1); 4096]);
-    let parts = [
-        Wanted::Batch(&first),
-        Wanted::Page(3, 8),
-        Wanted::Batch(&[Op::Find(2)]),
-    ];
-    reads_as(&rt, alloc, text.as_bytes(), &parts)
-}
-
-const REFUSALS: [(ScriptError, u8, &str); 7] = [
+const REFUSED: [(&str, ScriptError, &[&[u8]]); 5] = [
     (
-        ScriptError::Row(5, RecordError::BadShape),
-        10,
-        "row 5: bad shape",
+        "records of bad shape are refused",
+        ScriptError::Row(1, RecordError::BadShape),
+        &BAD_SHAPES,
     ),
     (
-        ScriptError::Row(5, RecordError::UnknownOperation),
-        11,
-        "row 5: unknown operation",
+        "unknown operations are refused",
+        ScriptError::Row(1, RecordError::UnknownOperation),
+        &UNKNOWN,
     ),
     (
-        ScriptError::Row(5, RecordError::BadNumber),
-        12,
-        "row 5: bad number",
+        "bad numbers are refused",
+        ScriptError::Row(1, RecordError::BadNumber),
+        &BAD_NUMBERS,
     ),
-    (ScriptError::Csv(5), 13, "row 5: unreadable record"),
     (
-        ScriptError::TooMany(8193),
-        14,
-        "row 8193: too many operations",
+        "the first refusal is the answer: the second record",
+        ScriptError::Row(2, RecordError::UnknownOperation),
+        &[SECOND_UNKNOWN],
     ),
-    (ScriptError::Read, 15, "read failed"),
-    (ScriptError::OutOfMemory, 16, "out of memory"),
+    (
+        "the first refusal is the answer: the tenth record",
+        ScriptError::Row(10, RecordError::BadNumber),
+        &[TENTH_BAD],
+    ),
 ];
 
 #[test]
-fn refusals_have_their_codes_and_texts(rt: HostRuntime) {
-    for &(refusal, code, text) in &REFUSALS {
-        is_told(&rt, rt.alloc(), &refusal, (refusal.code(), code), text);
+fn texts_that_are_no_scripts_are_refused(rt: HostRuntime) {
+    for &(name, refusal, texts) in &REFUSED {
+        for &text in texts {
+            refuses(&Row { rt: &rt, name }, rt.alloc(), text, refusal);
+        }
     }
-    same(&rt, &RecordError::BadNumber.code(), &12);
+}
+
+// A text of lines that are repeated so often, and what it is read as.
+struct Long<'a> {
+    name: &'a str,
+    lines: &'a [(&'a str, usize)],
+    end: Result<&'a [Wanted<'a>], ScriptError>,
+}
+
+fn text_of(rt: &impl Abort, alloc: Global, lines: &[(&str, usize)]) -> String {
+    let mut text = String::new(alloc);
+    for &(line, times) in lines {
+        push_repeated(rt, &mut text, line, times);
+    }
+    text
+}
+
+fn push_repeated(rt: &impl Abort, text: &mut String, line: &str, times: usize) {
+    for _ in 0..times {
+        given(rt, text.push_str(line));
+    }
+}
+
+fn ends_so(rt: &impl Abort, alloc: Global, long: &Long) {
+    let text = text_of(rt, alloc, long.lines);
+    match long.end {
+        Ok(parts) => reads_as(rt, alloc, text.as_bytes(), parts),
+        Err(refusal) => {
+            let refused = read_script(alloc, text.as_bytes()).err();
+            same(rt, &refused, &Some(refusal));
+        }
+    }
+}
+
+const LONG: [Long; 7] = [
+    Long {
+        name: "a full batch is read",
+        lines: &[("find,1,\n", 8191), ("find,1,", 1)],
+        end: Ok(&[Wanted::Finds(1, 8192)]),
+    },
+    Long {
+        name: "one operation too many is refused",
+        lines: &[("find,1,\n", 8192), ("find,1,", 1)],
+        end: Err(ScriptError::TooMany(8193)),
+    },
+    Long {
+        name: "one operation too many is refused after its own checks",
+        lines: &[("find,1,\n", 8192), ("find,x,", 1)],
+        end: Err(ScriptError::Row(8193, RecordError::BadNumber)),
+    },
+    Long {
+        name: "one operation too many is refused before the next one's checks",
+        lines: &[("find,1,\n", 8193), ("put,1,1", 1)],
+        end: Err(ScriptError::TooMany(8193)),
+    },
+    Long {
+        name: "a scan makes room for another batch",
+        lines: &[("find,1,\n", 8192), ("scan,3,8\n", 1), ("find,2,\n", 8192)],
+        end: Ok(&[
+            Wanted::Finds(1, 8192),
+            Wanted::Scan(3, 8),
+            Wanted::Finds(2, 8192),
+        ]),
+    },
+    Long {
+        name: "a scan makes room for one batch alone",
+        lines: &[
+            ("find,1,\n", 8192),
+            ("scan,3,8\n", 1),
+            ("find,2,\n", 8192),
+            ("find,1,\n", 1),
+        ],
+        end: Err(ScriptError::TooMany(16386)),
+    },
+    Long {
+        name: "a page makes room for another batch",
+        lines: &[("find,1,\n", 4096), ("page,3,8\n", 1), ("find,2,\n", 1)],
+        end: Ok(&[
+            Wanted::Finds(1, 4096),
+            Wanted::Page(3, 8),
+            Wanted::Batch(&[Op::Find(2)]),
+        ]),
+    },
+];
+
+#[test]
+fn batches_have_room_in_scripts(rt: HostRuntime) {
+    for long in &LONG {
+        let name = long.name;
+        ends_so(&Row { rt: &rt, name }, rt.alloc(), long);
+    }
 }
 
 // Gives a byte of its text at each call, and fails at the call after `calls` of them.

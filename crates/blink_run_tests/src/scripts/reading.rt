@@ -1,6 +1,7 @@
 //! Which bytes are which records, and readers that give single bytes, fail, or are read too far.
 use crate::calls::{Outcome, locked, replay_from, replayed, serve_from, served};
-use crate::fixtures::{are_bytes, bytes_of, is_shown, prefix_of, same};
+use crate::fixtures::{are_bytes, bytes_of, is_shown, same};
+use crate::row::Row;
 use blink_batch::{RecordError, ScriptError};
 use blink_run::{CutKind, Open, ServeError};
 use std::alloc::Global;
@@ -42,27 +43,8 @@ const UNKNOWN: &str = "row 1: unknown operation";
 // What two records are told, which insert a key and find it.
 const BOTH: &str = "inserted\nfound 10\n";
 
-#[test]
-fn a_script_may_end_anywhere(rt: HostRuntime) {
-    let script = b"insert,1,10\n";
-    for length in 0..=script.len() {
-        let expected = match length {
-            0 => "",
-            1..=8 => BAD_SHAPE,
-            9 => BAD_NUMBER,
-            _ => "inserted\n",
-        };
-        let told = Told {
-            case: "a prefix",
-            script: prefix_of(&rt, script, length),
-            text: expected,
-        };
-        expect_told(&rt, rt.alloc(), &told);
-    }
-}
-
 // What is told of scripts.
-const TOLD: [Told<'static>; 23] = [
+const TOLD: [Told<'static>; 36] = [
     // Bytes that are no text belong to their field.
     Told {
         case: "a number of no text",
@@ -182,17 +164,80 @@ const TOLD: [Told<'static>; 23] = [
         script: b"\n \n",
         text: BAD_SHAPE,
     },
+    // A script may end anywhere.
+    Told {
+        case: "a script may end anywhere: after 0 bytes",
+        script: b"",
+        text: "",
+    },
+    Told {
+        case: "a script may end anywhere: after 1 bytes",
+        script: b"i",
+        text: BAD_SHAPE,
+    },
+    Told {
+        case: "a script may end anywhere: after 2 bytes",
+        script: b"in",
+        text: BAD_SHAPE,
+    },
+    Told {
+        case: "a script may end anywhere: after 3 bytes",
+        script: b"ins",
+        text: BAD_SHAPE,
+    },
+    Told {
+        case: "a script may end anywhere: after 4 bytes",
+        script: b"inse",
+        text: BAD_SHAPE,
+    },
+    Told {
+        case: "a script may end anywhere: after 5 bytes",
+        script: b"inser",
+        text: BAD_SHAPE,
+    },
+    Told {
+        case: "a script may end anywhere: after 6 bytes",
+        script: b"insert",
+        text: BAD_SHAPE,
+    },
+    Told {
+        case: "a script may end anywhere: after 7 bytes",
+        script: b"insert,",
+        text: BAD_SHAPE,
+    },
+    Told {
+        case: "a script may end anywhere: after 8 bytes",
+        script: b"insert,1",
+        text: BAD_SHAPE,
+    },
+    Told {
+        case: "a script may end anywhere: after 9 bytes",
+        script: b"insert,1,",
+        text: BAD_NUMBER,
+    },
+    Told {
+        case: "a script may end anywhere: after 10 bytes",
+        script: b"insert,1,1",
+        text: "inserted\n",
+    },
+    Told {
+        case: "a script may end anywhere: after 11 bytes",
+        script: b"insert,1,10",
+        text: "inserted\n",
+    },
+    Told {
+        case: "a script may end anywhere: after 12 bytes",
+        script: b"insert,1,10\n",
+        text: "inserted\n",
+    },
 ];
-
-fn expect_all_told<R: Threads + Wait + Abort + Sync>(rt: &R, alloc: Global, cases: &[Told<'_>]) {
-    for told in cases {
-        expect_told(rt, alloc, told);
-    }
-}
 
 #[test]
 fn bytes_are_told_as_their_records(rt: HostRuntime) {
-    expect_all_told(&rt, rt.alloc(), &TOLD)
+    for told in &TOLD {
+        let name = told.case;
+        expect_told(&Row { rt: &rt, name }, rt.alloc(), told);
+    }
 }
 
 // That is told of a script with a field of a mebibyte, of one byte, which stands between two parts.
@@ -214,33 +259,22 @@ const WIDTH: usize = 1 << 20;
 fn expect_wide_told<R: Threads + Wait + Abort + Sync>(
     rt: &R,
     alloc: Global,
-    case: &str,
-    parts: &[(&str, usize)],
-    expected: &str,
+    (before, byte, after, text): (&str, &str, &str, &str),
 ) {
-    let script = bytes_of(rt, alloc, parts);
+    let script = bytes_of(rt, alloc, &[(before, 1), (byte, WIDTH), (after, 1)]);
     let told = Told {
-        case,
+        case: before,
         script: &script,
-        text: expected,
+        text,
     };
     expect_told(rt, alloc, &told)
 }
 
-fn expect_all_wide_told<R: Threads + Wait + Abort + Sync>(
-    rt: &R,
-    alloc: Global,
-    cases: &[(&str, &str, &str, &str)],
-) {
-    for &(before, byte, after, expected) in cases {
-        let parts = [(before, 1), (byte, WIDTH), (after, 1)];
-        expect_wide_told(rt, alloc, before, &parts, expected);
-    }
-}
-
 #[test]
 fn fields_may_be_wide(rt: HostRuntime) {
-    expect_all_wide_told(&rt, rt.alloc(), &WIDE)
+    for &case in &WIDE {
+        expect_wide_told(&rt, rt.alloc(), case);
+    }
 }
 
 // Gives a byte at each call, and fails at the call after so many.
@@ -307,7 +341,7 @@ fn replayed_bytewise(rt: &impl Abort, alloc: Global, calls: usize) -> Outcome {
 }
 
 #[test]
-fn a_reader_may_fail_at_any_call(rt: HostRuntime) {
+fn a_reader_of_single_bytes_may_fail_at_any_call(rt: HostRuntime) {
     let refusal = ServeError::Script(ScriptError::Read);
     // A call for each byte, and one that tells the end.
     for calls in 0..=SCRIPT.len() {
@@ -315,10 +349,7 @@ fn a_reader_may_fail_at_any_call(rt: HostRuntime) {
         replayed_bytewise(&rt, rt.alloc(), calls).expect_refusal(&rt, refusal);
     }
     same(&rt, &refusal.code(), &15);
-}
-
-#[test]
-fn a_reader_may_give_single_bytes(rt: HostRuntime) {
+    // It may give all in single bytes.
     let outcome = served_bytewise(&rt, rt.alloc(), 1000);
     outcome.expect_text(&rt, "inserted\n5 50\nend 1\nfound 50\n");
 }

@@ -1,4 +1,5 @@
 //! Batches of two workers under each schedule of their first twelve turns.
+use crate::fixtures::row::Row;
 use crate::fixtures::worlds::{
     Work, finish, full_leaf, has_answers, has_order, tree_after, world_of,
 };
@@ -91,6 +92,7 @@ struct Outcome {
 // An insertion of 5 and another operation on it, each by a worker of its own. The lanes are no lawful cut: whichever decides first
 // is answered first.
 struct Pair<'a> {
+    name: &'a str,
     work: Work<'a>,
     in_order: Outcome,
     turned: Outcome,
@@ -133,6 +135,7 @@ fn are_answered(rt: &impl Abort, alloc: Global, pair: &Pair) {
 }
 
 const DELETED: Pair = Pair {
+    name: "each schedule answers in the order of deciding",
     work: Work {
         ops: &[Op::Insert(5, 50), Op::Delete(5)],
         workers: 2,
@@ -148,12 +151,8 @@ const DELETED: Pair = Pair {
     },
 };
 
-#[test]
-fn each_schedule_answers_in_the_order_of_deciding(rt: HostRuntime) {
-    are_answered(&rt, rt.alloc(), &DELETED);
-}
-
 const REPLACED: Pair = Pair {
+    name: "each schedule replaces what is there",
     work: Work {
         ops: &[Op::Insert(5, 50), Op::Replace(5, 51)],
         workers: 2,
@@ -170,6 +169,9 @@ const REPLACED: Pair = Pair {
 };
 
 #[test]
-fn each_schedule_replaces_what_is_there(rt: HostRuntime) {
-    are_answered(&rt, rt.alloc(), &REPLACED);
+fn each_schedule_answers_two_on_one_key(rt: HostRuntime) {
+    for &pair in &[&DELETED, &REPLACED] {
+        let name = pair.name;
+        are_answered(&Row { rt: &rt, name }, rt.alloc(), pair);
+    }
 }

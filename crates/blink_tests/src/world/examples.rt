@@ -1,14 +1,15 @@
 //! Examples of worlds, told as what is done and what is to be seen.
 //!
 //! An example is a constant, which costs nothing to prove: the functions here that carry examples out are proved once.
+use crate::fixtures::row::Row;
 use crate::fixtures::stores::{self, empty_tree};
 use crate::fixtures::worlds::{
     Work, finish, full_leaf, has_answers, has_order, keys_to, tree_after, two_leaves, world_of,
 };
-use crate::fixtures::{same, same_for};
+use crate::fixtures::{given, same, same_for};
 use blink_batch::Answer;
 use blink_rest::Rest;
-use blink_steps::{Kind, Step, StepError, Working, World};
+use blink_steps::{Debt, Job, Kind, State, Step, StepError, Working, World};
 use std::alloc::Global;
 use std::process::Abort;
 
@@ -31,6 +32,8 @@ pub enum Act<'a> {
     Take(u8, &'a [Kind]),
     // A turn of this worker comes to this.
     Turn(u8, Result<Step, StepError>),
+    // This worker is picked, and its turn comes to this.
+    Advance(u8, Step),
     // All operations come to their ends.
     Finish,
     // The world is seen so.
@@ -64,15 +67,21 @@ pub enum Sight<'a> {
     Read(u32, u64),
     // The holder of the latch of this page.
     Holder(u32, Option<u8>),
+    // The worker has no operation under way.
+    NoWork(u8),
+    // The worker's operation is the first one, has split page 1 of level 0, and owes this before it writes page 1.
+    HalfSplit(u8, Debt),
 }
 
-// A batch over a tree, the turns that begin it, and what goes on then.
+// A batch over a tree, the turns that begin it, and what goes on then. If the example goes to its end, its tree is seen so.
 #[derive(Clone, Copy)]
 pub struct Example<'a> {
+    pub name: &'a str,
     pub tree: Tree,
     pub work: Work<'a>,
     pub schedule: &'a [u8],
     pub acts: &'a [Act<'a>],
+    pub leaves: Option<&'a [stores::Sight<'a>]>,
 }
 
 // The tree.
@@ -99,21 +108,26 @@ fn goes_on(rt: &impl Abort, world: &mut World, acts: &[Act]) {
     }
 }
 
-// The example goes so.
-pub fn goes(rt: &impl Abort, alloc: Global, example: &Example) {
-    world_after(rt, alloc, example);
+// Each example goes so.
+pub fn go(rt: &impl Abort, alloc: Global, examples: &[&Example]) {
+    for &example in examples {
+        let name = example.name;
+        goes(&Row { rt, name }, alloc, example);
+    }
 }
 
-// The example goes so to its end, and leaves a tree that is seen so.
-pub fn leaves(rt: &impl Abort, alloc: Global, example: &Example, sights: &[stores::Sight]) {
-    let rest = tree_after(rt, world_after(rt, alloc, example));
-    stores::is_seen(rt, rest.store(), sights);
+fn goes(rt: &impl Abort, alloc: Global, example: &Example) {
+    let world = world_after(rt, alloc, example);
+    if let Some(sights) = example.leaves {
+        stores::is_seen(rt, tree_after(rt, world).store(), sights);
+    }
 }
 
 fn does(rt: &impl Abort, world: &mut World, act: Act) {
     match act {
         Act::Take(worker, kinds) => takes(rt, world, worker, kinds),
         Act::Turn(worker, step) => turns_to(rt, world, worker, step),
+        Act::Advance(worker, step) => advances(rt, world, worker, step),
         Act::Finish => finish(rt, world),
         Act::See(sight) => is_seen(rt, world, sight),
         Act::Store(sights) => stores::is_seen(rt, world.store(), sights),
@@ -123,6 +137,14 @@ fn does(rt: &impl Abort, world: &mut World, act: Act) {
 fn turns_to(rt: &impl Abort, world: &mut World, worker: u8, step: Result<Step, StepError>) {
     let result = world.step(worker);
     same_for(rt, &result, &step, &world.schedule());
+}
+
+fn advances(rt: &impl Abort, world: &mut World, worker: u8, step: Step) {
+    let Some(picked) = world.pick() else {
+        panic!(rt; "nobody is picked");
+    };
+    same(rt, &picked, &worker);
+    same(rt, &given(rt, world.advance(picked)), &step);
 }
 
 fn takes(rt: &impl Abort, world: &mut World, worker: u8, kinds: &[Kind]) {
@@ -145,6 +167,8 @@ pub fn is_seen(rt: &impl Abort, world: &World, sight: Sight) {
         Sight::MovedAt(place, count) => has_moved(rt, world, place, count),
         Sight::Read(place, count) => has_read(rt, world, place, count),
         Sight::Holder(page, worker) => same_for(rt, &world.latches().holder(page), &worker, &page),
+        Sight::NoWork(worker) => is_without_work(rt, world, worker),
+        Sight::HalfSplit(worker, owed) => is_half_split(rt, work_of(rt, world, worker), owed),
     }
 }
 
@@ -168,6 +192,21 @@ fn has_moved(rt: &impl Abort, world: &World, place: u32, moves: u64) {
 fn has_read(rt: &impl Abort, world: &World, place: u32, count: u64) {
     assert!(rt; (place as usize) < world.answers().len());
     same_for(rt, &world.reads_of(place), &count, &place);
+}
+
+fn is_without_work(rt: &impl Abort, world: &World, worker: u8) {
+    assert!(rt; worker < world.workers());
+    assert!(rt; world.working(worker).is_none());
+}
+
+// The first operation has written the new page, and is to write the old one, page 1, by an operation that owes this.
+fn is_half_split(rt: &impl Abort, working: &Working, owed: Debt) {
+    let writes_first =
+        matches!(working.machine.state(), State::SplitOld(1, _, debt) if *debt == owed);
+    assert!(rt; writes_first);
+    same(rt, &working.place, &0);
+    same(rt, &working.machine.job(), &Job::Leaf);
+    assert!(rt; working.machine.remembered().is_empty());
 }
 
 // What the worker has under way.

@@ -1,12 +1,13 @@
 //! Examples in which no page splits.
+use crate::fixtures::stores;
 use crate::fixtures::worlds::Work;
-use crate::fixtures::{is_told, stores};
-use crate::world::examples::{Act, Example, Sight, Tree, goes, leaves};
+use crate::world::examples::{Act, Example, Sight, Tree, go};
 use blink_batch::{Answer, Op};
 use blink_steps::Kind::{Latch, ReadPage, ReadPrime, Unlatch, WritePage};
 use blink_steps::{Step, StepError};
 
 const ONE_INSERTION: Example = Example {
+    name: "an insertion takes six steps",
     tree: Tree::Empty,
     work: Work {
         ops: &[Op::Insert(1, 1)],
@@ -31,14 +32,11 @@ const ONE_INSERTION: Example = Example {
         Act::See(Sight::Schedule(&[0; 7])),
         Act::See(Sight::Order(&[0])),
     ],
+    leaves: None,
 };
 
-#[test]
-fn an_insertion_takes_six_steps(rt: HostRuntime) {
-    goes(&rt, rt.alloc(), &ONE_INSERTION);
-}
-
 const WAIT_FOR_LATCH: Example = Example {
+    name: "a second worker waits for the latch",
     tree: Tree::Empty,
     work: Work {
         ops: &[Op::Insert(1, 1), Op::Insert(2, 2)],
@@ -57,6 +55,7 @@ const WAIT_FOR_LATCH: Example = Example {
         Act::Take(0, &[ReadPage(1), WritePage(1), Unlatch(1)]),
         Act::Take(1, &[Latch(1), ReadPage(1), WritePage(1), Unlatch(1)]),
     ],
+    leaves: Some(&BOTH_INSERTED),
 };
 
 const BOTH_INSERTED: [stores::Sight; 2] = [
@@ -64,12 +63,8 @@ const BOTH_INSERTED: [stores::Sight; 2] = [
     stores::Sight::Entries(1, &[(1, 1), (2, 2)]),
 ];
 
-#[test]
-fn a_second_worker_waits_for_the_latch(rt: HostRuntime) {
-    leaves(&rt, rt.alloc(), &WAIT_FOR_LATCH, &BOTH_INSERTED);
-}
-
 const THREE_DELETIONS: Example = Example {
+    name: "an empty leaf stays",
     tree: Tree::TwoLeaves,
     work: Work {
         ops: &[Op::Delete(1), Op::Delete(2), Op::Delete(3), Op::Find(3)],
@@ -86,6 +81,7 @@ const THREE_DELETIONS: Example = Example {
             Some(Answer::Absent),
         ])),
     ],
+    leaves: Some(&EMPTY_LEAF),
 };
 
 const EMPTY_LEAF: [stores::Sight; 3] = [
@@ -94,12 +90,8 @@ const EMPTY_LEAF: [stores::Sight; 3] = [
     stores::Sight::High(1, 3),
 ];
 
-#[test]
-fn an_empty_leaf_stays(rt: HostRuntime) {
-    leaves(&rt, rt.alloc(), &THREE_DELETIONS, &EMPTY_LEAF);
-}
-
 const KEY_INTO_EMPTY_LEAF: Example = Example {
+    name: "an empty leaf takes a key",
     tree: Tree::TwoLeaves,
     work: Work {
         ops: &[
@@ -124,17 +116,13 @@ const KEY_INTO_EMPTY_LEAF: Example = Example {
             Unlatch(1),
         ],
     )],
+    leaves: Some(&LEAF_WITH_KEY),
 };
 
 const LEAF_WITH_KEY: [stores::Sight; 2] = [
     stores::Sight::Pages(3),
     stores::Sight::Entries(1, &[(2, 21)]),
 ];
-
-#[test]
-fn an_empty_leaf_takes_a_key(rt: HostRuntime) {
-    leaves(&rt, rt.alloc(), &KEY_INTO_EMPTY_LEAF, &LEAF_WITH_KEY);
-}
 
 // The worker comes to page 2 of the two leaves, latches it and reads it again.
 const TO_SECOND_LEAF: [blink_steps::Kind; 5] = [
@@ -148,6 +136,7 @@ const TO_SECOND_LEAF: [blink_steps::Kind; 5] = [
 // One worker replaces the pointer of 4 twice by the same one, and then that of 6, which isn't there. The second writes too, though
 // the pointers are the same; the third finds nothing to replace.
 const REPLACEMENTS: Example = Example {
+    name: "a replacement writes its leaf once",
     tree: Tree::TwoLeaves,
     work: Work {
         ops: &[Op::Replace(4, 41), Op::Replace(4, 41), Op::Replace(6, 60)],
@@ -168,6 +157,7 @@ const REPLACEMENTS: Example = Example {
             Some(Answer::Absent),
         ])),
     ],
+    leaves: Some(&FOUR_REPLACED),
 };
 
 const FOUR_REPLACED: [stores::Sight; 2] = [
@@ -175,14 +165,10 @@ const FOUR_REPLACED: [stores::Sight; 2] = [
     stores::Sight::Entries(2, &[(4, 41), (5, 50)]),
 ];
 
-#[test]
-fn a_replacement_writes_its_leaf_once(rt: HostRuntime) {
-    leaves(&rt, rt.alloc(), &REPLACEMENTS, &FOUR_REPLACED);
-}
-
 // One worker exchanges the pointer of 4, then finds that it is no longer the expected one, and then that 6 isn't there. Only the first
 // writes.
 const EXCHANGES: Example = Example {
+    name: "an exchange writes only over the expected pointer",
     tree: Tree::TwoLeaves,
     work: Work {
         ops: &[
@@ -207,16 +193,13 @@ const EXCHANGES: Example = Example {
             Some(Answer::Absent),
         ])),
     ],
+    leaves: Some(&FOUR_REPLACED),
 };
-
-#[test]
-fn an_exchange_writes_only_over_the_expected_pointer(rt: HostRuntime) {
-    leaves(&rt, rt.alloc(), &EXCHANGES, &FOUR_REPLACED);
-}
 
 // One worker expects another pointer of 4 than its own, then its own, and then one of 6, which isn't there. Only the second
 // writes.
 const EXACT_DELETIONS: Example = Example {
+    name: "an exact deletion writes only where the expected pointer is",
     tree: Tree::TwoLeaves,
     work: Work {
         ops: &[
@@ -241,6 +224,7 @@ const EXACT_DELETIONS: Example = Example {
             Some(Answer::Absent),
         ])),
     ],
+    leaves: Some(&FOUR_REMOVED),
 };
 
 const FOUR_REMOVED: [stores::Sight; 2] = [
@@ -248,12 +232,8 @@ const FOUR_REMOVED: [stores::Sight; 2] = [
     stores::Sight::Entries(2, &[(5, 50)]),
 ];
 
-#[test]
-fn an_exact_deletion_writes_only_where_the_expected_pointer_is(rt: HostRuntime) {
-    leaves(&rt, rt.alloc(), &EXACT_DELETIONS, &FOUR_REMOVED);
-}
-
 const NO_WORKERS_NUMBER: Example = Example {
+    name: "a number that is no workers takes no turn",
     tree: Tree::Empty,
     work: Work {
         ops: &[Op::Find(7)],
@@ -268,22 +248,21 @@ const NO_WORKERS_NUMBER: Example = Example {
         Act::See(Sight::Answers(&[Some(Answer::Absent)])),
         Act::See(Sight::Ended(true)),
     ],
+    leaves: None,
 };
 
-#[test]
-fn a_number_that_is_no_workers_takes_no_turn(rt: HostRuntime) {
-    goes(&rt, rt.alloc(), &NO_WORKERS_NUMBER);
-}
-
-const REFUSALS: [(StepError, u8, &str); 3] = [
-    (StepError::OutOfMemory, 30, "out of memory"),
-    (StepError::NoWorker(7), 31, "no worker 7"),
-    (StepError::TooLarge, 32, "too large"),
+const EXAMPLES: [&Example; 8] = [
+    &ONE_INSERTION,
+    &WAIT_FOR_LATCH,
+    &THREE_DELETIONS,
+    &KEY_INTO_EMPTY_LEAF,
+    &REPLACEMENTS,
+    &EXCHANGES,
+    &EXACT_DELETIONS,
+    &NO_WORKERS_NUMBER,
 ];
 
 #[test]
-fn refusals_have_numbers_and_texts(rt: HostRuntime) {
-    for &(refusal, code, text) in &REFUSALS {
-        is_told(&rt, rt.alloc(), &refusal, (refusal.code(), code), text);
-    }
+fn worlds_of_one_leaf(rt: HostRuntime) {
+    go(&rt, rt.alloc(), &EXAMPLES);
 }

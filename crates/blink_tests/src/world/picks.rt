@@ -1,7 +1,7 @@
 //! Examples of picked turns and of waits.
 use crate::fixtures::worlds::Work;
 use crate::fixtures::{same, stores};
-use crate::world::examples::{Act, Example, Sight, Tree, goes, leaves, work_of, world_after};
+use crate::world::examples::{Act, Example, Sight, Tree, go, work_of, world_after};
 use blink_batch::{Answer, Op};
 use blink_page::GREATEST_KEY;
 use blink_steps::{Working, World};
@@ -15,6 +15,7 @@ const TWO_INSERTIONS: Work = Work {
 };
 
 const START: Example = Example {
+    name: "nobody waits at the start",
     tree: Tree::Empty,
     work: TWO_INSERTIONS,
     schedule: &[],
@@ -23,14 +24,11 @@ const START: Example = Example {
         Act::See(Sight::Worker(0, false, true)),
         Act::See(Sight::Worker(1, false, true)),
     ],
+    leaves: None,
 };
 
-#[test]
-fn nobody_waits_at_the_start(rt: HostRuntime) {
-    goes(&rt, rt.alloc(), &START);
-}
-
 const WAIT: Example = Example {
+    name: "a worker waits for a latch",
     tree: Tree::Empty,
     work: TWO_INSERTIONS,
     schedule: &[0, 0, 0, 1, 1, 1],
@@ -45,12 +43,8 @@ const WAIT: Example = Example {
         Act::See(Sight::Worker(1, false, true)),
         Act::See(Sight::Answers(&[Some(Answer::Inserted); 2])),
     ],
+    leaves: None,
 };
-
-#[test]
-fn a_worker_waits_for_a_latch(rt: HostRuntime) {
-    goes(&rt, rt.alloc(), &WAIT);
-}
 
 // The two are at the same place, and need the same.
 fn is_same_work(rt: &impl Abort, working: &Working, other: &Working) {
@@ -93,14 +87,17 @@ fn shows_the_same(rt: &impl Abort, world: &World, other: &World) {
 }
 
 const FIVE_TURNS: Example = Example {
+    name: "five turns",
     tree: Tree::Empty,
     work: TWO_INSERTIONS,
     schedule: &[0, 0, 0, 1, 1],
     acts: &[Act::See(Sight::Schedule(&[0, 0, 0, 1, 1]))],
+    leaves: None,
 };
 
 // The same turns, and then a wait.
 const SIX_TURNS: Example = Example {
+    name: "six turns",
     tree: Tree::Empty,
     work: TWO_INSERTIONS,
     schedule: &[0, 0, 0, 1, 1, 1],
@@ -108,6 +105,7 @@ const SIX_TURNS: Example = Example {
         Act::See(Sight::Schedule(&[0, 0, 0, 1, 1, 1])),
         Act::See(Sight::Picked(Some(0))),
     ],
+    leaves: None,
 };
 
 #[test]
@@ -119,6 +117,7 @@ fn a_wait_changes_the_schedule_alone(rt: HostRuntime) {
 
 // Worker 0 has split the full leaf; worker 1 has split its right half, and asks for the level above, which isn't there yet.
 const OVERTAKING: Example = Example {
+    name: "a worker waits for a level",
     tree: Tree::FullLeaf,
     work: Work {
         ops: &[
@@ -147,6 +146,7 @@ const OVERTAKING: Example = Example {
             1, 0, 0, 0, 0, 1, 1, 1, 1, 1,
         ])),
     ],
+    leaves: Some(&BOTH_POSTED),
 };
 
 const BOTH_POSTED: [stores::Sight; 3] = [
@@ -155,7 +155,9 @@ const BOTH_POSTED: [stores::Sight; 3] = [
     stores::Sight::Entries(4, &[(3, 1), (6, 2), (GREATEST_KEY, 3)]),
 ];
 
+const EXAMPLES: [&Example; 3] = [&START, &WAIT, &OVERTAKING];
+
 #[test]
-fn a_worker_waits_for_a_level(rt: HostRuntime) {
-    leaves(&rt, rt.alloc(), &OVERTAKING, &BOTH_POSTED);
+fn worlds_with_picked_turns(rt: HostRuntime) {
+    go(&rt, rt.alloc(), &EXAMPLES);
 }

@@ -1,13 +1,10 @@
 //! Examples of one batch under several schedules.
 use crate::fixtures::same;
 use crate::fixtures::stores::empty_tree;
-use crate::fixtures::worlds::{
-    Work, batch_of, finish, full_leaf, has_answers, has_order, lanes_of, two_leaves, world_of,
-};
+use crate::fixtures::worlds::{Work, batch_of, lanes_of};
+use crate::world::examples::{Act, Example, Sight, Tree, go};
 use blink_batch::{Answer, Op};
 use blink_steps::{StepError, replay};
-use std::alloc::Global;
-use std::process::Abort;
 
 // Finds and deletions of two workers.
 const FINDS_AND_DELETIONS: Work = Work {
@@ -23,89 +20,112 @@ const FINDS_AND_DELETIONS: Work = Work {
 };
 
 // What they are answered over the two leaves, whatever the schedule.
-const THEIR_ANSWERS: [Option<Answer>; 5] = [
-    Some(Answer::Found(20)),
-    Some(Answer::Removed(50)),
-    Some(Answer::Absent),
-    Some(Answer::Removed(10)),
-    Some(Answer::Absent),
+const TO_THEIR_END: [Act; 2] = [
+    Act::Finish,
+    Act::See(Sight::Answers(&[
+        Some(Answer::Found(20)),
+        Some(Answer::Removed(50)),
+        Some(Answer::Absent),
+        Some(Answer::Removed(10)),
+        Some(Answer::Absent),
+    ])),
 ];
 
-fn answers_alike(rt: &impl Abort, alloc: Global, schedule: &[u8]) {
-    let rest = two_leaves(rt, alloc);
-    let mut world = world_of(rt, alloc, rest, &FINDS_AND_DELETIONS, schedule);
-    finish(rt, &mut world);
-    has_answers(rt, &world, &THEIR_ANSWERS);
-}
+const ONE_AFTER_THE_OTHER: Example = Example {
+    name: "finds and deletions over two leaves, one after the other",
+    tree: Tree::TwoLeaves,
+    work: FINDS_AND_DELETIONS,
+    schedule: &[0, 0, 0, 1, 1, 1],
+    acts: &TO_THEIR_END,
+    leaves: None,
+};
 
-const SCHEDULES: [&[u8]; 3] = [
-    &[0, 0, 0, 1, 1, 1],
-    &[1, 0, 1, 0, 1, 0, 1, 0, 1],
-    &[0, 1, 1, 1, 1, 1, 1, 1, 1, 1, 0],
-];
+const IN_TURN: Example = Example {
+    name: "finds and deletions over two leaves, in turn",
+    tree: Tree::TwoLeaves,
+    work: FINDS_AND_DELETIONS,
+    schedule: &[1, 0, 1, 0, 1, 0, 1, 0, 1],
+    acts: &TO_THEIR_END,
+    leaves: None,
+};
 
-#[test]
-fn finds_and_deletions_over_two_leaves(rt: HostRuntime) {
-    for &schedule in &SCHEDULES {
-        answers_alike(&rt, rt.alloc(), schedule);
-    }
-}
+const BETWEEN: Example = Example {
+    name: "finds and deletions over two leaves, one between the other's turns",
+    tree: Tree::TwoLeaves,
+    work: FINDS_AND_DELETIONS,
+    schedule: &[0, 1, 1, 1, 1, 1, 1, 1, 1, 1, 0],
+    acts: &TO_THEIR_END,
+    leaves: None,
+};
 
-// An insertion of 5 by worker 0 and a deletion of it by worker 1.
+// An insertion of 5 by worker 0 and a deletion of it by worker 1, which are answered in the order of deciding.
 const ONE_KEY: Work = Work {
     ops: &[Op::Insert(5, 50), Op::Delete(5)],
     workers: 2,
     lanes: &[0, 1],
 };
 
-// A schedule of the two, the order in which they decide, and the answers.
-struct Decision {
-    schedule: &'static [u8],
-    order: [u32; 2],
-    answers: [Option<Answer>; 2],
-}
-
-const REMOVED: [Option<Answer>; 2] = [Some(Answer::Inserted), Some(Answer::Removed(50))];
-
-const ABSENT: [Option<Answer>; 2] = [Some(Answer::Inserted), Some(Answer::Absent)];
-
-const DECISIONS: [Decision; 4] = [
-    Decision {
-        schedule: &[],
-        order: [0, 1],
-        answers: REMOVED,
-    },
-    Decision {
-        schedule: &[1, 0, 0, 0, 0, 0, 0],
-        order: [0, 1],
-        answers: REMOVED,
-    },
-    Decision {
-        schedule: &[1, 1, 1, 1, 0, 0],
-        order: [1, 0],
-        answers: ABSENT,
-    },
-    Decision {
-        schedule: &[0, 0, 1, 1, 1, 1],
-        order: [1, 0],
-        answers: ABSENT,
-    },
+const REMOVED: [Act; 3] = [
+    Act::Finish,
+    Act::See(Sight::Order(&[0, 1])),
+    Act::See(Sight::Answers(&[Some(Answer::Inserted), Some(Answer::Removed(50))])),
 ];
 
-// They decide so.
-fn decides(rt: &impl Abort, alloc: Global, decision: &Decision) {
-    let rest = full_leaf(rt, alloc);
-    let mut world = world_of(rt, alloc, rest, &ONE_KEY, decision.schedule);
-    finish(rt, &mut world);
-    has_order(rt, &world, &decision.order);
-    has_answers(rt, &world, &decision.answers);
-}
+const ABSENT: [Act; 3] = [
+    Act::Finish,
+    Act::See(Sight::Order(&[1, 0])),
+    Act::See(Sight::Answers(&[Some(Answer::Inserted), Some(Answer::Absent)])),
+];
+
+const INSERTION_FIRST: Example = Example {
+    name: "a key of two workers is answered in the order of deciding: no schedule",
+    tree: Tree::FullLeaf,
+    work: ONE_KEY,
+    schedule: &[],
+    acts: &REMOVED,
+    leaves: None,
+};
+
+const DELETION_BEGINS: Example = Example {
+    name: "a key of two workers is answered in the order of deciding: the deletion begins",
+    tree: Tree::FullLeaf,
+    work: ONE_KEY,
+    schedule: &[1, 0, 0, 0, 0, 0, 0],
+    acts: &REMOVED,
+    leaves: None,
+};
+
+const DELETION_FIRST: Example = Example {
+    name: "a key of two workers is answered in the order of deciding: the deletion comes first",
+    tree: Tree::FullLeaf,
+    work: ONE_KEY,
+    schedule: &[1, 1, 1, 1, 0, 0],
+    acts: &ABSENT,
+    leaves: None,
+};
+
+const INSERTION_BEGINS: Example = Example {
+    name: "a key of two workers is answered in the order of deciding: the insertion begins",
+    tree: Tree::FullLeaf,
+    work: ONE_KEY,
+    schedule: &[0, 0, 1, 1, 1, 1],
+    acts: &ABSENT,
+    leaves: None,
+};
+
+const EXAMPLES: [&Example; 7] = [
+    &ONE_AFTER_THE_OTHER,
+    &IN_TURN,
+    &BETWEEN,
+    &INSERTION_FIRST,
+    &DELETION_BEGINS,
+    &DELETION_FIRST,
+    &INSERTION_BEGINS,
+];
 
 #[test]
-fn a_key_of_two_workers_is_answered_in_the_order_of_deciding(rt: HostRuntime) {
-    for decision in &DECISIONS {
-        decides(&rt, rt.alloc(), decision);
-    }
+fn worlds_by_schedules(rt: HostRuntime) {
+    go(&rt, rt.alloc(), &EXAMPLES);
 }
 
 #[test]

@@ -1,8 +1,9 @@
 //! Examples in which pages split and roots grow.
+use crate::fixtures::row::Row;
 use crate::fixtures::same_for;
 use crate::fixtures::stores::{Sight, is_seen, page_at};
 use crate::fixtures::worlds::{Work, keys_to};
-use crate::world::examples::{Act, Example, Sight as Seen, Tree, goes, leaves};
+use crate::world::examples::{Act, Example, Sight as Seen, Tree, go};
 use blink_batch::{Answer, Op};
 use blink_page::GREATEST_KEY;
 use blink_steps::Kind::{Latch, ReadPage, ReadPrime, Unlatch, WritePage, WritePrime};
@@ -12,6 +13,7 @@ use std::alloc::Global;
 use std::process::Abort;
 
 const ONE_INSERTION: Example = Example {
+    name: "a full leaf splits and the root grows",
     tree: Tree::FullLeaf,
     work: Work {
         ops: &[Op::Insert(5, 50)],
@@ -37,6 +39,7 @@ const ONE_INSERTION: Example = Example {
             ],
         ),
     ],
+    leaves: Some(&HALVES),
 };
 
 // The full leaf with 5 inserted: its halves are pages 1 and 2, and their root is page 3.
@@ -49,11 +52,6 @@ const HALVES: [Sight; 7] = [
     Sight::Bounds(2, 0, (Some(3), GREATEST_KEY, None)),
     Sight::Entries(3, &[(3, 1), (GREATEST_KEY, 2)]),
 ];
-
-#[test]
-fn a_full_leaf_splits_and_the_root_grows(rt: HostRuntime) {
-    leaves(&rt, rt.alloc(), &ONE_INSERTION, &HALVES);
-}
 
 // Worker 0 has an insertion that splits the full leaf, and worker 1 a find.
 const PASSING: Work = Work {
@@ -79,6 +77,7 @@ const HALF_SPLIT: [u8; 9] = [1, 0, 0, 0, 0, 0, 0, 1, 1];
 const ANSWERS: [Option<Answer>; 2] = [Some(Answer::Inserted), Some(Answer::Found(40))];
 
 const PASSED_STEP_BY_STEP: Example = Example {
+    name: "a find passes a half finished split",
     tree: Tree::FullLeaf,
     work: PASSING,
     schedule: &[],
@@ -96,14 +95,11 @@ const PASSED_STEP_BY_STEP: Example = Example {
         Act::See(Seen::Worker(1, false, true)),
         Act::See(Seen::Ended(false)),
     ],
+    leaves: None,
 };
 
-#[test]
-fn a_find_passes_a_half_finished_split(rt: HostRuntime) {
-    goes(&rt, rt.alloc(), &PASSED_STEP_BY_STEP);
-}
-
 const PASSED_BY_SCHEDULE: Example = Example {
+    name: "a schedule passes a half finished split",
     tree: Tree::FullLeaf,
     work: PASSING,
     schedule: &HALF_SPLIT,
@@ -117,12 +113,8 @@ const PASSED_BY_SCHEDULE: Example = Example {
         Act::See(Seen::Worker(1, false, true)),
         Act::See(Seen::Ended(false)),
     ],
+    leaves: None,
 };
-
-#[test]
-fn a_schedule_passes_a_half_finished_split(rt: HostRuntime) {
-    goes(&rt, rt.alloc(), &PASSED_BY_SCHEDULE);
-}
 
 // Worker 1 inserts into the right half.
 const INTO_SECOND: [Kind; 7] = [
@@ -150,6 +142,7 @@ const SPLIT_OF_SECOND: [Kind; 9] = [
 
 // Worker 0 splits the full leaf; worker 1 splits its right half, and is ready to post it before there is a root.
 const OVERTAKING: Example = Example {
+    name: "postings overtake each other",
     tree: Tree::FullLeaf,
     work: Work {
         ops: &[
@@ -188,6 +181,7 @@ const OVERTAKING: Example = Example {
         Act::See(Seen::Order(&[0, 1, 2, 3])),
         Act::See(Seen::MovedAt(3, 14)),
     ],
+    leaves: Some(&BOTH_POSTED),
 };
 
 // The tree in which both splits are posted.
@@ -198,13 +192,9 @@ const BOTH_POSTED: [Sight; 4] = [
     Sight::Entries(4, &[(3, 1), (6, 2), (GREATEST_KEY, 3)]),
 ];
 
-#[test]
-fn postings_overtake_each_other(rt: HostRuntime) {
-    leaves(&rt, rt.alloc(), &OVERTAKING, &BOTH_POSTED);
-}
-
 // The root of the tree, page 3, is full, and splits.
 const SPLIT_OF_ROOT: Example = Example {
+    name: "an inner page splits",
     tree: Tree::KeysTo(13),
     work: Work {
         ops: &[Op::Insert(14, 14)],
@@ -240,6 +230,7 @@ const SPLIT_OF_ROOT: Example = Example {
             ],
         ),
     ],
+    leaves: Some(&ROOT_IN_HALVES),
 };
 
 const ROOT_IN_HALVES: [Sight; 6] = [
@@ -250,11 +241,6 @@ const ROOT_IN_HALVES: [Sight; 6] = [
     Sight::Entries(8, &[(9, 3), (GREATEST_KEY, 7)]),
     Sight::Leftmost(&[1, 3, 8]),
 ];
-
-#[test]
-fn an_inner_page_splits(rt: HostRuntime) {
-    leaves(&rt, rt.alloc(), &SPLIT_OF_ROOT, &ROOT_IN_HALVES);
-}
 
 // Page `number` has the keys from `first` to `last`.
 fn has_keys(rt: &impl Abort, store: &Store, number: u32, (first, last): (u64, u64)) {
@@ -268,6 +254,7 @@ fn has_keys(rt: &impl Abort, store: &Store, number: u32, (first, last): (u64, u6
 
 // A fan, the keys of a tree with one key more than fit a leaf, and what is to be seen of its pages.
 struct Parts<'a> {
+    name: &'a str,
     fan: u8,
     greatest: u64,
     separator: u64,
@@ -284,6 +271,7 @@ fn splits_at(rt: &impl Abort, alloc: Global, parts: &Parts) {
 }
 
 const OF_GREATEST_FAN: Parts = Parts {
+    name: "the greatest fan splits into seventeen and sixteen",
     fan: 32,
     greatest: 33,
     separator: 17,
@@ -296,12 +284,8 @@ const OF_GREATEST_FAN: Parts = Parts {
     ],
 };
 
-#[test]
-fn the_greatest_fan_splits_into_seventeen_and_sixteen(rt: HostRuntime) {
-    splits_at(&rt, rt.alloc(), &OF_GREATEST_FAN)
-}
-
 const OF_SIXTEEN: Parts = Parts {
+    name: "a fan of sixteen splits into nine and eight",
     fan: 16,
     greatest: 17,
     separator: 9,
@@ -315,6 +299,22 @@ const OF_SIXTEEN: Parts = Parts {
 };
 
 #[test]
-fn a_fan_of_sixteen_splits_into_nine_and_eight(rt: HostRuntime) {
-    splits_at(&rt, rt.alloc(), &OF_SIXTEEN)
+fn leaves_of_fans_split(rt: HostRuntime) {
+    for &parts in &[&OF_GREATEST_FAN, &OF_SIXTEEN] {
+        let name = parts.name;
+        splits_at(&Row { rt: &rt, name }, rt.alloc(), parts);
+    }
+}
+
+const EXAMPLES: [&Example; 5] = [
+    &ONE_INSERTION,
+    &PASSED_STEP_BY_STEP,
+    &PASSED_BY_SCHEDULE,
+    &OVERTAKING,
+    &SPLIT_OF_ROOT,
+];
+
+#[test]
+fn worlds_that_split(rt: HostRuntime) {
+    go(&rt, rt.alloc(), &EXAMPLES);
 }
