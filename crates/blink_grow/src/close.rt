@@ -3,7 +3,7 @@ ghost use Rattle.std.specs.Prelude.{◌≡◌, [], All, IfErr, IfOk};
 ghost use Rattle.blink_index.specs.{map_of};
 ghost use Rattle.blink_grow.specs.Closing.{HasEnded, HasJoined, IsClosedWith, IsUnclosed};
 ghost use Rattle.blink_grow.specs.Renewing.{IsRefusal};
-ghost use Rattle.blink_grow.specs.Sessions.{IsSessionOf};
+ghost use Rattle.blink_grow.specs.Sessions.{IsSessionOf, places_of};
 ghost use Rattle.blink_grow.specs.Steps.{AreCompared};
 
 use crate::copy::{Begun, Copied};
@@ -17,6 +17,13 @@ use blink_index::Index;
 use std::alloc::Global;
 
 impl GrowingMap {
+    /// How many places for sessions the map has. It is opened with as many sessions, and never has others.
+    pub fn places(&self) -> usize
+        ensures { result ≡ places_of self.now }
+    {
+        self.table.slot_count()
+    }
+
     /// Closes the map, and returns an index of its entries, in as few pages as they need. The index that was opened stays as it was.
     /// The entries are the opening ones after one list of changes, that of all maps. It goes on from all that each of these sessions has
     /// seen; of the changes at their places it has exactly those that are counted as theirs. Sessions needn't come back. If all do,

@@ -1,0 +1,8 @@
+mod NobodyElse
+mod AllCameBack
+mod OneIsFirst
+mod OnlyTwoInsert
+mod OnlyTwoRaise
+mod RaisesAdd
+mod SessionsRaise
+mod TriesToRaise

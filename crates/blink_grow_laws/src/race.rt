@@ -1,0 +1,67 @@
+//! Two insertions of one absent key, each in a thread of its own.
+ghost use Rattle.std.specs.Prelude.{◌≡◌, None, IfOk};
+ghost use Rattle.blink_batch.specs.{pointer_of};
+ghost use Rattle.blink_batch.specs.declared.Op.TheVariants.{Insert};
+ghost use Rattle.blink_index.specs.{map_of};
+ghost use Rattle.blink_grow.specs.{IsAnswered, IsSessionOf};
+ghost use Rattle.blink_grow_laws.specs.Racing.{OneIsInserted};
+
+use crate::back::push;
+use blink_batch::{Answer, Op};
+use blink_grow::{GrowError, GrowingMap, Session};
+use blink_index::Index;
+use std::alloc::Global;
+use std::sync::Wait;
+use std::thread::{Threads, join_mut};
+
+/// Opens a growing map over an index, lets two of its sessions insert one key that the index lacks, each in a thread of its own, and
+/// closes the map. Exactly one of them is answered `Inserted`, and the other one that the key has the first one's pointer.
+pub fn two_insert<R: Threads + Wait + Sync>(
+    rt: &R,
+    alloc: Global,
+    index: &Index,
+    places: u32,
+    key: u64,
+    pointers: (u64, u64),
+) -> Result<(Answer, Answer), GrowError>
+    requires absent { pointer_of (map_of index.now) key ≡ None }
+    ensures { IfOk result (λ answers. OneIsInserted pointers.0 pointers.1 answers.0 answers.1) }
+{
+    let (map, mut sessions) = GrowingMap::open(alloc, index, places)?;
+    let Some(mut one) = sessions.pop() else {
+        return Err(GrowError::Sessions);
+    };
+    let Some(mut other) = sessions.pop() else {
+        return Err(GrowError::Sessions);
+    };
+    let answers = both_insert(rt, alloc, &map, &mut one, &mut other, key, pointers);
+    let first = answers.0?;
+    let second = answers.1?;
+    push(&mut sessions, other)?;
+    push(&mut sessions, one)?;
+    match map.close(alloc, sessions) {
+        Ok(_) => Ok((first, second)),
+        Err(unclosed) => Err(unclosed.refusal),
+    }
+}
+
+fn both_insert<R: Threads + Wait + Sync>(
+    rt: &R,
+    alloc: Global,
+    map: &GrowingMap,
+    one: &mut Session,
+    other: &mut Session,
+    key: u64,
+    pointers: (u64, u64),
+) -> (Result<Answer, GrowError>, Result<Answer, GrowError>)
+    requires ones { IsSessionOf map.now one.old }
+    requires others { IsSessionOf map.now other.old }
+    ensures ones { IfOk result.0 (IsAnswered map.now (Insert key pointers.0) one.old one.new) }
+    ensures others { IfOk result.1 (IsAnswered map.now (Insert key pointers.1) other.old other.new) }
+{
+    join_mut(
+        rt,
+        &mut || map.change(rt, alloc, one, Op::Insert(key, pointers.0)),
+        &mut || map.change(rt, alloc, other, Op::Insert(key, pointers.1)),
+    )
+}
