@@ -1,7 +1,7 @@
 #!/bin/sh
 # Looks at out/libblink.a and out/libblink.so as who ships or links them does: their names, SONAME, needs and version; a program linked by
-# blink.pc, with the archive, with `--static`, and with the shared library, from out/ and after an install, and whether each starts; two
-# libraries in one program; which library blink.py takes; and what an install, a refused one, and `make uninstall` leave. It says nothing
+# blink.pc, with the archive, with `--static`, and with the shared library, from out/ and after an install, also where its folder was moved, and
+# by CMake, and whether each starts; what refuses another major version; two libraries in one program; which library blink.py takes; and what an install, a refused one, and `make uninstall` leave. It says nothing
 # where all is well, and names what it left out: without pkg-config the programs by blink.pc, without readelf the shared library's head,
 # without Python blink.py.
 set -eu
@@ -30,6 +30,9 @@ is() {
 quietly sh "$top/crates/blink_c/link/compare.sh" "$top/out/libblink.a" "$top/out/libblink.so"
 version=$(sed -n 's/^#define BLINK_VERSION "\(.*\)"$/\1/p' "$top/include/blink.h")
 is "rust/blink's version" "$(sed -n 's/^version = "\(.*\)"$/\1/p' "$top/rust/blink/Cargo.toml")" "$version"
+is "the header's numbers" "$(sed -n 's/^#define BLINK_VERSION_[A-Z]* //p' "$top/include/blink.h" | paste -sd.)" "$version"
+is "blink.hpp's version" "$(sed -n 's/^#if BLINK_VERSION_MAJOR != //p' "$top/include/blink.hpp")" "${version%%.*}"
+is "blink.py's version" "$(sed -n 's/^_VERSION = "\(.*\)"$/\1/p' "$top/python/blink.py")" "$version"
 is libblink.so.0 "$(readlink "$top/out/libblink.so.0")" "libblink.so.$version"
 is libblink.so "$(readlink "$top/out/libblink.so")" libblink.so.0
 if command -v readelf >/dev/null 2>&1; then
@@ -50,7 +53,7 @@ mkdir prefix refused folder
 quietly sh "$top/include/install.sh" "" prefix/blink
 quietly sh "$top/include/install.sh" "$work/staged" /opt/blink
 is "the staged install" "$(listing staged/opt/blink)" "$(listing prefix/blink)"
-is "the staged prefix" "$(grep '^prefix=' staged/opt/blink/lib/pkgconfig/blink.pc)" prefix=/opt/blink
+is "the staged prefix" "$(grep '^prefix=' staged/opt/blink/lib/pkgconfig/blink.pc)" 'prefix=${pcfiledir}/../..'
 listing prefix/blink >before
 touch refused/lib
 mkdir -p folder/lib/pkgconfig/blink.pc
@@ -84,7 +87,8 @@ starts() {
     is "$what" "$(./program 2>&1)" "$version"
 }
 if command -v pkg-config >/dev/null 2>&1; then
-    for it in "$top/out" "$work/prefix/blink/lib/pkgconfig"; do
+    mv staged/opt/blink moved
+    for it in "$top/out" "$work/prefix/blink/lib/pkgconfig" "$work/moved/lib/pkgconfig"; do
         export PKG_CONFIG_PATH="$it"
         is "the version of $it" "$(pkg-config --modversion blink)" "$version"
         # shellcheck disable=SC2046
@@ -98,6 +102,62 @@ if command -v pkg-config >/dev/null 2>&1; then
     done
 else
     echo "$0: no pkg-config, so no program was linked by blink.pc" >&2
+fi
+
+# CMake links the archive and the shared library by find_package, and the archive by pkg-config, of a folder that was moved. A later version
+# isn't found.
+if command -v cmake >/dev/null 2>&1; then
+    mkdir cmake
+    cp program.c cmake
+    cat >cmake/CMakeLists.txt <<'CMAKE'
+cmake_minimum_required(VERSION 3.13)
+project(program C)
+find_package(blink 0.1 REQUIRED)
+foreach(it blink shared)
+  add_executable(by_${it} program.c)
+  target_link_libraries(by_${it} blink::${it})
+endforeach()
+find_package(blink 0.2 QUIET)
+if(blink_FOUND)
+  message(FATAL_ERROR "version 0.2 is found")
+endif()
+find_package(PkgConfig)
+if(PkgConfig_FOUND)
+  pkg_check_modules(blink_pc REQUIRED IMPORTED_TARGET blink)
+  add_executable(by_pkgconfig program.c)
+  target_link_libraries(by_pkgconfig PkgConfig::blink_pc)
+endif()
+CMAKE
+    [ -d moved ] || mv staged/opt/blink moved
+    quietly env PKG_CONFIG_PATH="$work/moved/lib/pkgconfig" cmake -S cmake -B built -DCMAKE_PREFIX_PATH="$work/moved" -DCMAKE_C_COMPILER="$cc"
+    quietly cmake --build built
+    for it in built/by_*; do
+        [ ! -x "$it" ] || [ -d "$it" ] || is "$it" "$("./$it" 2>&1)" "$version"
+    done
+else
+    echo "$0: no cmake, so no program was linked by it" >&2
+fi
+
+# Another major version is refused: by the crate, before it links, and by blink.py.
+if command -v cargo >/dev/null 2>&1; then
+    mkdir other
+    touch other/libblink.a
+    echo 'Version: 1.0.0' >other/blink.pc
+    if BLINK_LIB_DIR=$work/other CARGO_TARGET_DIR=$work/target cargo check --offline --manifest-path "$top/rust/blink/Cargo.toml" >told 2>&1 ||
+        ! grep -q "has version 1.0.0, and the crate $version: take both from one release" told; then
+        cat told >&2
+        wrong "the crate takes a library of another major version"
+    fi
+fi
+if command -v python3 >/dev/null 2>&1; then
+    mkdir later
+    echo 'const char *blink_version(void) { return "1.0.0"; }' >later.c
+    quietly "$cc" -shared -fPIC later.c -o later/libblink.so.0
+    if BLINK_LIB_DIR=$work/later PYTHONPATH=$top/python PYTHONDONTWRITEBYTECODE=1 python3 -c 'import blink' >told 2>&1 ||
+        ! grep -q "^ImportError: .* has version 1.0.0, and blink.py $version: take both from one release" told; then
+        cat told >&2
+        wrong "blink.py takes a library of another major version"
+    fi
 fi
 
 # An installed blink.py takes the library beside it, or that of the folder which BLINK_LIB_DIR names, and no other.

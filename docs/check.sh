@@ -1,5 +1,5 @@
 #!/bin/sh
-# Looks whether the documents say what is there: links and their anchors, paths, must-fail edits, names in backticks and the files where they
+# Looks whether the documents say what is there: links and their anchors, paths, wrong bodies, names in backticks and the files where they
 # are said to stand, and pictures; that EDITS.md lists each edit, BELIEVE.md quotes the sources, and PROMISES.md has each export and cites clauses that there are;
 # that neither an old word nor a merge's mark stands in them; that crates name of one another's specs what their lists pass on; that C, Rust and
 # Python count alike, and bytes follow from a row's words; and that each is short enough: README.md by lines, other documents by words of prose,
@@ -127,7 +127,7 @@ while IFS=: read -r page line text; do
         crates/* | docs/* | examples/* | bench/*)
             [ -e "$path" ] || echo "$page:$line: no such path: $text"
             ;;
-        src/* | specs/* | proofs/* | must-fail/* | page/*)
+        src/* | specs/* | proofs/* | must-fail/* | wrong/* | page/*)
             there=no
             for crate in crates/*; do
                 [ -e "$crate/$path" ] && there=yes
@@ -138,7 +138,7 @@ while IFS=: read -r page line text; do
             crate=${path%%/*}
             rest=${path#*/}
             if [ -d "crates/$crate" ]; then
-                [ -e "crates/$crate/$rest" ] || [ -e "crates/$crate/must-fail/$rest.edit" ] \
+                [ -e "crates/$crate/$rest" ] || [ -e "crates/$crate/must-fail/$rest.edit" ] || [ -e "crates/$crate/wrong/$rest.edit" ] \
                     || echo "$page:$line: crate $crate has no $rest"
             fi
             ;;
@@ -153,11 +153,11 @@ awk -v sources="$work/sources" '
     /^```/ { quotes = $0 == "```text"; next }
     quotes && NF && !(bare($0) in known) { print FILENAME ":" FNR ": not in the sources: " bare($0) }' docs/BELIEVE.md >>"$work/found"
 
-for edit in crates/*/must-fail/*.edit; do
+for edit in crates/*/must-fail/*.edit crates/*/wrong/*.edit; do
     name=${edit##*/}
     grep -q "${name%.edit}\`" docs/EDITS.md || echo "docs/EDITS.md: doesn't list $edit"
 done >>"$work/found"
-edits=$(find crates -path '*/must-fail/*.edit' | wc -l)
+edits=$(find crates -path '*/must-fail/*.edit' -o -path '*/wrong/*.edit' | wc -l)
 for page in docs/EDITS.md docs/CHANGING.md; do
     grep -q "There are $edits edits" $page || echo "$page: there are $edits edits"
 done >>"$work/found"
@@ -239,20 +239,19 @@ done >>"$work/found" <<TEXTS
 ${words}_words docs/BOOK.md docs/FORMATS.md docs/GLOSSARY.md docs/pictures/draw.py
 ${row}_bytes rust/blink/src/map.rs crates/blink_live/src/open.rt
 |_$row; docs/CHOOSING.md
-|_$insertion,000 docs/CHOOSING.md
-${insertion}_KB docs/FORMATS.md bench/README.md crates/blink_live/src/open.rt crates/blink_settings/src/settings.rt rust/blink/src/table.rs .ci/settings.sh
+${insertion}_KB docs/FORMATS.md bench/README.md crates/blink_live/src/open.rt crates/blink_settings/src/settings.rt .ci/settings.sh
 |_$session,000 docs/CHOOSING.md
 0.$(((session + 50) / 100))_MB include/blink.h rust/blink/src/map.rs
 TEXTS
 
-# Tries: C, Rust and Python take the same number of steps in vain, at first and at most.
-for it in TRIES MOST_TRIES; do
+# Tries: C, Rust and Python take the same number of steps in vain, at first and at most, and yield as often before they sleep.
+for it in TRIES MOST_TRIES YIELDS; do
     sed -n "s/^#define BLINK_$it \([0-9]*\)\$/\1 in C/p" include/blink.h
     sed -n "s/^pub(crate) const $it: u32 = \([0-9_]*\);\$/\1 in Rust/p" rust/blink/src/waiting.rs | tr -d _
     sed -n "s/^_$it = \([0-9_]*\)\$/\1 in Python/p" python/blink.py | tr -d _
 done | awk '{ told[NR] = $0; number[NR] = $1 }
-    END { for (at = 1; at <= 6; at++) if (!(at in number) || number[at] != number[at <= 3 ? 1 : 4]) wrong = 1
-        if (wrong) { line = "include/blink.h: tries of calls that wait:"; for (at = 1; at <= NR; at++) line = line " " told[at] ","; print line " and not twice three equal ones" } }' >>"$work/found"
+    END { for (at = 1; at <= 9; at++) if (!(at in number) || number[at] != number[at - (at - 1) % 3]) wrong = 1
+        if (wrong) { line = "include/blink.h: tries of calls that wait:"; for (at = 1; at <= NR; at++) line = line " " told[at] ","; print line " and not three times three equal ones" } }' >>"$work/found"
 
 # Lengths: CHANGING.md tells them as they are above.
 for it in "$most_lines lines" "$(echo $most_words | sed 's/...$/,&/') words" "$most_in_cell words"; do

@@ -1,33 +1,31 @@
 /*
- * blink.h: a proved B-link tree index, and a table and a map that threads share without a global lock, for C and C++.
+ * blink.h: a proved B-link tree index, and a map that threads share without a global lock, for C and C++.
  *
  * Link with libblink.a or libblink.so, which ./libblink builds. What the comment of a function says of its results, and of what
  * it changes, is proved in crates/blink_c, unless it says "tested". Inline functions are made of the others, and tested alone. Of all
  * functions it is tested alone that memory is refused only where malloc or realloc gives none, that an operation gets on by
- * blink_pass_advance and its like, and that what is freed is free. What follows is what the caller keeps.
+ * blink_session_advance, and that what is freed is free. What follows is what the caller keeps.
  *
- * Handles. blink_index, blink_reader, blink_table, blink_pass, blink_map and blink_session are handles. A handle begins as {NULL}, and is
- * then empty. A function with a parameter `out` takes the place of an empty handle, and fills it if it returns BLINK_DONE. All other
- * functions take a full one. A handle is freed once: by its free function, or, of a table, by its close function. A close of a map leaves the
- * handle, which blink_map_free frees. blink_index_share and blink_reader_unshare, if they return BLINK_DONE, leave the handle empty that they
+ * Handles. blink_index, blink_reader, blink_map and blink_session are handles. A handle begins as {NULL}, and is then empty. A function
+ * with a parameter `out` takes the place of an empty handle, and fills it if it returns BLINK_DONE. All other functions take a full one. A
+ * handle is freed once, by its free function. A close of a map leaves the handle, which blink_map_free frees. blink_index_share and blink_reader_unshare, if they return BLINK_DONE, leave the handle empty that they
  * take, and then it isn't freed.
  *
  * Misuse. A call out of order is refused, and its comment says by which code: while an operation is under way (BLINK_PENDING) or none is
- * (BLINK_IDLE), by a pass that was given back (BLINK_RETURNED), by one of another table or a session of another map (BLINK_FOREIGN), and a
- * close before all is given back or freed (BLINK_MISSING, BLINK_SESSION_MISSING). Undefined, of every call, as a wild pointer is, since
- * nothing looks for it: an empty handle, a freed one or a copy of a freed one, where a full one is asked for; a full one as `out`; a handle
- * of another type, which takes a cast; one handle as two parameters; two calls at once by one handle; and NULL for a handle, an array or a
+ * (BLINK_IDLE), and a close before all is freed (BLINK_SESSION_MISSING). Undefined, of every call, as a wild pointer is, since nothing
+ * looks for it: an empty handle, a freed one or a copy of a freed one, where a full one is asked for; a full one as `out`; a handle of
+ * another type, which takes a cast; one handle as two parameters; two calls at once by one handle; and NULL for a handle, an array or a
  * result.
  *
  * Threads. One call at a time uses a handle, also one that takes it as const, which leaves what the handle has as it was. Several threads
  * at once may call blink_map_join, blink_map_share and blink_map_room with one handle of a map, which wait for each other. Any thread may
  * use a handle; one gives it to another by what orders memory between the two: a lock, a start or join of a thread, or an atomic that one
  * stores with release order, at least, and the other loads with acquire order. Different handles may be used by different threads at the
- * same time, also readers of one index; passes of one table, and the table itself; or sessions of one map, and the map itself. No call
- * waits for another thread, but those three, one that renews a map, and the inline functions at the end. None may be called from a
- * signal handler, or in a forked child of a process with threads. Tested: what a thread wrote before a call of a pass or a session that
- * stores a pointer is seen by whoever gets this pointer from a call of another one, by a find, a glance, a scan, a snapshot or a change. So
- * a pointer may be the address of a record, which isn't changed from then on but by what orders memory itself.
+ * same time, also readers of one index; or sessions of one map, and the map itself. No call waits for another thread, but those three, one
+ * that renews a map, and the inline functions at the end. None may be called from a signal handler, or in a forked child of a process with
+ * threads. Tested: what a thread wrote before a call of a session that stores a pointer is seen by whoever gets this pointer from a call of
+ * another one, by a find, a scan, a snapshot or a change. So a pointer may be the address of a record, which isn't changed from then on but
+ * by what orders memory itself.
  *
  * No call has a cancellation point, so a thread that may be cancelled, but not at any time, ends behind its call. One that ends within a
  * call, cancelled at any time or by a jump out of a signal handler, leaves its handle as if it were never freed, and may leave a page
@@ -37,8 +35,7 @@
  * no two arrays or results of one call overlap.
  *
  * Memory comes from malloc, realloc and free. A call that is refused for want of it leaves what was there as it was, except that
- * blink_table_close gives the table up, blink_index_apply has carried out the operations before, and a pass or a session may have seen
- * more.
+ * blink_index_apply has carried out the operations before, and a session may have seen more.
  */
 #ifndef BLINK_H
 #define BLINK_H
@@ -53,14 +50,16 @@
 extern "C" {
 #endif
 
-/* The version: of this header, and as text that of the library that the program runs with. The first number is that of libblink.so.0. */
+/* The version: of this header, as text and as three numbers, and as text that of the library that the program runs with. The first number is
+ * that of libblink.so.0: programs are linked anew where it differs. */
 #define BLINK_VERSION "0.1.0"
+#define BLINK_VERSION_MAJOR 0
+#define BLINK_VERSION_MINOR 1
+#define BLINK_VERSION_PATCH 0
 const char *blink_version(void);
 
 typedef struct { void *at; } blink_index;
 typedef struct { void *at; } blink_reader;
-typedef struct { void *at; } blink_table;
-typedef struct { void *at; } blink_pass;
 typedef struct { void *at; } blink_map;
 typedef struct { void *at; } blink_session;
 
@@ -68,7 +67,7 @@ typedef struct { void *at; } blink_session;
 typedef struct { uint64_t key, pointer; } blink_entry;
 
 /* An operation. A find and a deletion don't read the pointer. An exchange has a third number, for which there is no place here, so it
- * has functions of its own: blink_index_exchange, blink_pass_begin_exchange and blink_session_exchange. So has a deletion of an expected
+ * has functions of its own: blink_index_exchange and blink_session_exchange. So has a deletion of an expected
  * pointer: blink_index_delete_exact and its like. */
 typedef struct { uint64_t kind, key, pointer; } blink_operation;
 
@@ -84,7 +83,7 @@ typedef struct { uint64_t kind, pointer; } blink_answer;
  *         // entries[0] to entries[s.filled - 1]
  *     }
  *
- * with one place at least; and so of a reader, a pass and a session; and backwards by `s = {0, 1, hi}` and
+ * with one place at least; and so of a reader and a session; and backwards by `s = {0, 1, hi}` and
  * blink_index_scan_back(&index, lo, s.next, ..). */
 typedef struct { uint64_t filled, more, next; } blink_scanned;
 
@@ -128,17 +127,8 @@ enum {
     BLINK_NO_MEMORY = 41,          /* malloc or realloc gave no memory */
     BLINK_NOT_ASCENDING = 42,      /* a key of the entries isn't above the one before */
     BLINK_SHARED = 43,             /* the index has another reader */
-    BLINK_TAKEN = 51,              /* a pass has the key that wasn't given back, or it stands twice in the list */
-    BLINK_NO_ALLOWANCE = 52,       /* the table has fewer insertions or deletions left, or has dealt 2^32 - 1 passes */
-    BLINK_NOT_YOURS = 54,          /* the key isn't one of the pass's */
-    BLINK_SPENT = 55,              /* the pass has no insertion, or no deletion, left */
-    BLINK_MISSING = 56,            /* a pass wasn't given back, or its handle isn't freed */
-    BLINK_TABLE_TOO_LARGE = 57,    /* as 32, by the insertions that the table is to have room for */
-    BLINK_TRANSFER_NOT_YOURS = 58,     /* a key isn't one of the pass's that is to hand it over, or stands twice in the list */
-    BLINK_FOREIGN = 63,            /* the pass is of another table, or the session of another map */
-    BLINK_PENDING = 90,            /* the pass or the session has an operation under way */
-    BLINK_IDLE = 91,               /* the pass or the session has no operation under way */
-    BLINK_RETURNED = 92,           /* the pass was given back to its table */
+    BLINK_PENDING = 90,            /* the session has an operation under way */
+    BLINK_IDLE = 91,               /* the session has no operation under way */
     BLINK_MAP_TOO_LARGE = 101,     /* the index's pages and the page numbers of the room are above 1,048,575 */
     BLINK_BAD_SESSIONS = 102,      /* there are to be no sessions, or more than 256 */
     BLINK_NO_SESSION = 103,          /* each place for a session was taken, or the map is closed */
@@ -161,6 +151,14 @@ enum {
 /* The most tries of a change of a map that waits: each time that the map couldn't be renewed it has ten times as many, up to these. */
 #define BLINK_MOST_TRIES 1000000
 
+/* How often a thread that waits yields before it sleeps. A yield lets no thread of lesser priority run, which may be the one that holds
+ * this one up. */
+#define BLINK_YIELDS 100
+
+/* Lets other threads run, between two tries of a call that waits. `*pauses` is 0 at the first try, and is counted. The first BLINK_YIELDS
+ * calls yield (sched_yield). Each later one sleeps for some 50 microseconds. It is no cancellation point. */
+void blink_pause(uint32_t *pauses);
+
 /* The text of a code, in a few words without a full stop. A number that is no code has one too. */
 static inline const char *blink_message(int code) {
     switch (code) {
@@ -173,17 +171,8 @@ static inline const char *blink_message(int code) {
     case BLINK_NO_MEMORY: return "out of memory";
     case BLINK_NOT_ASCENDING: return "the keys don't ascend";
     case BLINK_SHARED: return "the index has another reader";
-    case BLINK_TAKEN: return "a pass has the key";
-    case BLINK_NO_ALLOWANCE: return "the table has too few changes left";
-    case BLINK_NOT_YOURS: return "the key isn't the pass's";
-    case BLINK_SPENT: return "the pass has no change left";
-    case BLINK_MISSING: return "a pass wasn't given back or freed";
-    case BLINK_TABLE_TOO_LARGE: return "the table is too large";
-    case BLINK_TRANSFER_NOT_YOURS: return "a key isn't the pass's that hands it over";
-    case BLINK_FOREIGN: return "of another table or map";
     case BLINK_PENDING: return "an operation is under way";
     case BLINK_IDLE: return "no operation is under way";
-    case BLINK_RETURNED: return "the pass was given back";
     case BLINK_MAP_TOO_LARGE: return "the map is too large";
     case BLINK_BAD_SESSIONS: return "a map has 1 to 256 sessions";
     case BLINK_NO_SESSION: return "no place for a session, or the map is closed";
@@ -346,7 +335,7 @@ void blink_index_free(blink_index index);
  *
  * An index that is shared is only read. Each thread has a reader of its own, which answers as the index did when it was shared: no call
  * of any reader changes that. Readers join, read and are freed each in their own thread, and none waits for another. The last one gives
- * the index back, to be changed again. A table or a map is opened over an index, not over a reader. Threads that read while others
+ * the index back, to be changed again. A map is opened over an index, not over a reader. Threads that read while others
  * change have a map.
  */
 
@@ -382,115 +371,6 @@ int blink_reader_dump(const blink_reader *reader, uint8_t *text, size_t places, 
 
 /* Frees the reader. Tested: the last one frees the index. */
 void blink_reader_free(blink_reader reader);
-
-/* ---- The table: the index's entries, which threads change together. ----
- *
- * A table deals passes. A pass has some keys, which no other pass has, and room for some changes. Its thread finds, inserts,
- * deletes, replaces and exchanges its own keys, with the answers of its own plain map, and glances at all keys and scans ranges of them. A
- * pass hands keys to another, or goes back, and then its keys can be dealt again. In the end every pass goes back, every handle of
- * a pass is freed, and the table is closed to an index.
- */
-
-/* Opens a table over the index, which stays as it is, with room for so many insertions and deletions; a replacement or an
- * exchange uses a deletion. It is made of the two exports below. Refused: BLINK_TABLE_TOO_LARGE, exactly if 1 + pages + 22 for each
- * insertion is above 1,048,576; BLINK_NO_MEMORY. */
-static inline int blink_table_open(const blink_index *index, uint32_t inserts, uint32_t deletes, blink_table *out);
-
-/* Opens a table whose number is 0, and stores its place, at which no other table lies while it or a pass of it lives; and gives a table
- * its number. Passes get the number when they are dealt, and by it passes of two tables are told apart. So whoever calls these, as a
- * program in another language, names each table by its place before it deals. Refused: as blink_table_open. */
-int blink_table_open_unnamed(const blink_index *index, uint32_t inserts, uint32_t deletes, blink_table *out, uint64_t *place);
-void blink_table_name(blink_table *table, uint64_t number);
-
-static inline int blink_table_open(const blink_index *index, uint32_t inserts, uint32_t deletes, blink_table *out) {
-    uint64_t place;
-    int code = blink_table_open_unnamed(index, inserts, deletes, out, &place);
-    if (code == BLINK_DONE) blink_table_name(out, place);
-    return code;
-}
-
-/* Deals a pass with these keys, in any order, and room for so many changes. A key that was dealt before has the state that its last
- * pass left. Refused: BLINK_TAKEN, and `taken` is the first key of the list that a pass has which wasn't given back, or that stands
- * earlier in the list; BLINK_NO_ALLOWANCE; BLINK_NO_MEMORY, at any time. Without BLINK_TAKEN, `taken` stays as it was. */
-int blink_table_deal(blink_table *table, const uint64_t *keys, size_t count, uint32_t inserts, uint32_t deletes,
-                     blink_pass *out, uint64_t *taken);
-
-/* Gives a pass back to its table: its keys can be dealt again. Its handle then holds nothing, is BLINK_RETURNED to all calls, and
- * is still to be freed. It takes no memory. Refused, looked for in this order: BLINK_FOREIGN; BLINK_PENDING or BLINK_RETURNED. */
-int blink_table_return(blink_table *table, blink_pass *pass);
-
-/* Closes the table, and gives the index of its tree: the entries that it was opened with, except that each key that was dealt has
- * the state that its last pass left. The index has at most the pages that the table was opened over, and 22 for each insertion that
- * the table has room for. The table is given up either way. Refused: BLINK_MISSING, if a pass wasn't given back; BLINK_NO_MEMORY.
- * Tested: it is BLINK_MISSING also if the handle of a pass isn't freed, and in no other case. */
-int blink_table_close(blink_table table, blink_index *out);
-
-/* Frees the table, without an index. The handles of its passes may still be used, and are still to be freed. */
-void blink_table_free(blink_table table);
-
-/* Looks a key of the pass up: BLINK_FOUND or BLINK_ABSENT. Refused, looked for in this order: BLINK_PENDING or BLINK_RETURNED;
- * BLINK_NOT_YOURS, for every key that isn't the pass's. */
-int blink_pass_find(blink_pass *pass, uint64_t key, blink_answer *answer);
-
-/* Looks any key up: BLINK_FOUND or BLINK_ABSENT, after the changes that the pass has seen by the end of the call. A pass never
- * un-sees a change that it has seen, for all keys at once. How much new it sees isn't promised. Refused: BLINK_PENDING;
- * BLINK_RETURNED. */
-int blink_pass_glance(blink_pass *pass, uint64_t key, blink_answer *answer);
-
-/* Gives the entries whose keys are from `lo` to `hi`, both included, in ascending order, as many as there are places; other places
- * stay as they were. The keys may be anybody's. It reads leaf after leaf, from the left, each at one time: what it says of a key is
- * what the changes up to some time in the call leave of it, and of a greater key those up to that time or a later one. A key that
- * is there throughout the call is reported, and one that isn't there throughout isn't. Of the pass's own keys the report is exact. It
- * takes no memory. Refused: BLINK_PENDING; BLINK_RETURNED; then nothing changes. */
-int blink_pass_scan(blink_pass *pass, uint64_t lo, uint64_t hi, blink_entry *entries, size_t places, blink_scanned *scanned);
-
-/* The same in descending order: it reads leaf after leaf, from the right, and what it says of a key is what the changes up to some time
- * in the call leave of it, and of a smaller key those up to that time or a later one. It goes down the tree once for each leaf of the
- * range. A scan of one place from 0 to `key` gives the last entry up to a key. */
-int blink_pass_scan_back(blink_pass *pass, uint64_t lo, uint64_t hi, blink_entry *entries, size_t places, blink_scanned *scanned);
-
-/* Takes a snapshot: the entries whose keys are from `lo` to `hi`, both included, in ascending order, as all of them were at one time in
- * the call. They are what the changes that the pass has seen then leave of each of these keys. The array gets as many as there are
- * places, and `taken` says how many there are; other places stay as they were. If some leaf of the range was changed at each of `tries`
- * tries, there is no snapshot, and the places stay as they were: try again, or scan. It waits for nobody. It takes memory for the
- * entries and 16 bytes for each leaf, and frees it again. Refused: BLINK_PENDING; BLINK_RETURNED; BLINK_NO_MEMORY, and then the pass may
- * have seen more. */
-int blink_pass_snapshot(blink_pass *pass, uint64_t lo, uint64_t hi, uint32_t tries, blink_entry *entries, size_t places,
-                        blink_taken *taken);
-
-/* Tells pass `to` what pass `from` has seen: then `to` has seen all that `from` has seen. The two handles are different. Refused,
- * looked for in this order: BLINK_FOREIGN, if the passes are of two tables; BLINK_PENDING or BLINK_RETURNED, if `from` isn't free;
- * the same, if `to` isn't. */
-int blink_pass_tell(blink_pass *from, blink_pass *to);
-
-/* Hands these keys, in any order, from pass `from` to pass `to`, which can change them then as `from` could; `from` still glances
- * at them. Each pass keeps the changes that it has left, and `to` has then seen all that `from` has seen. The two handles are
- * different. Refused, looked for in this order: as blink_pass_tell; BLINK_TRANSFER_NOT_YOURS, and `bad_key` is the first key of the
- * list that isn't one of `from`'s, or that stands earlier in the list; BLINK_NO_MEMORY. Without BLINK_TRANSFER_NOT_YOURS,
- * `bad_key` stays as it was. A refusal leaves both passes as they were. */
-int blink_pass_transfer(blink_pass *from, blink_pass *to, const uint64_t *keys, size_t count, uint64_t *bad_key);
-
-/* Begin an insertion, a deletion, a replacement or an exchange of a key of the pass; the last answers as blink_index_exchange does.
- * It goes on by blink_pass_advance, and until it has ended the pass can do nothing else. Each uses one insertion, or one deletion, of
- * the pass, whatever it answers. Refused, looked for in this order: BLINK_PENDING or BLINK_RETURNED; BLINK_NOT_YOURS, for every key
- * that isn't the pass's; BLINK_SPENT. */
-int blink_pass_begin_insert(blink_pass *pass, uint64_t key, uint64_t pointer);
-int blink_pass_begin_delete(blink_pass *pass, uint64_t key);
-int blink_pass_begin_replace(blink_pass *pass, uint64_t key, uint64_t pointer);
-int blink_pass_begin_exchange(blink_pass *pass, uint64_t key, uint64_t expected, uint64_t pointer);
-
-/* Begins a deletion of a key of the pass, if its pointer is `expected`, as blink_pass_begin_delete begins one of any pointer. It
- * answers as blink_index_delete_exact does, uses one deletion, and is refused as that one is. */
-int blink_pass_begin_delete_exact(blink_pass *pass, uint64_t key, uint64_t expected);
-
-/* Takes the next steps of the operation under way. It returns BLINK_DONE and the answer once the operation has ended, and
- * BLINK_PENDING if it hasn't: then the operation holds no page, so that no other pass waits for it, and the thread may do something
- * else, yield or wait as it likes, and calls again. Tested: that is after `tries` steps in vain, since another pass has the page that
- * it wants. It never waits itself. Refused: BLINK_IDLE, if nothing is under way; BLINK_RETURNED. */
-int blink_pass_advance(blink_pass *pass, uint32_t tries, blink_answer *answer);
-
-/* Frees the handle. A pass that wasn't given back before is lost: blink_table_close is then refused with BLINK_MISSING. */
-void blink_pass_free(blink_pass pass);
 
 /* ---- The map: entries that threads change together at any key. It grows. ----
  *
@@ -529,7 +409,7 @@ void blink_pass_free(blink_pass pass);
 
 /* Opens a map over the index, which stays as it is, with places for 256 sessions. While it opens, it takes twice the memory that the
  * map has then. Refused: BLINK_MAP_TOO_LARGE, if the index leaves too few of the 1,048,575 page numbers; BLINK_NO_MEMORY. */
-static inline int blink_map_open(const blink_index *index, blink_map *out);
+int blink_map_open(const blink_index *index, blink_map *out);
 
 /* Opens a map as blink_map_open does, which has so many page numbers and rows for its first changes; blink_room_for works them out. Where a
  * change finds too few left, the map is renewed, and grows as any other. But if its room is `fixed`, it has places for `sessions` sessions, and
@@ -547,31 +427,7 @@ static inline int blink_map_open(const blink_index *index, blink_map *out);
  * few hundred for each session, are enough for all changes as long as the page numbers last. While a thread is held up inside a call no
  * row comes back, and a change may be refused with BLINK_ROWS_BUSY, and let through later. Refused: BLINK_BAD_SESSIONS, if `sessions`
  * is 0 or more than 256; BLINK_MAP_TOO_LARGE, if the index's pages and `pages` are above 1,048,575; BLINK_NO_MEMORY. */
-static inline int blink_map_open_with_room(const blink_index *index, uint32_t pages, uint32_t rows, uint32_t sessions, bool fixed,
-                                           blink_map *out);
-
-/* The same two for a map whose number is 0: they store its place, at which no other map lies while it or a session of it lives. The third
- * gives a map its number. Sessions get the number when they join, and by it sessions of two maps are told apart. So whoever calls these, as a
- * program in another language, names each map by its place before a session joins. */
-int blink_map_open_unnamed(const blink_index *index, blink_map *out, uint64_t *place);
-int blink_map_open_with_room_unnamed(const blink_index *index, uint32_t pages, uint32_t rows, uint32_t sessions, bool fixed, blink_map *out,
-                                     uint64_t *place);
-void blink_map_name(blink_map *map, uint64_t number);
-
-static inline int blink_map_open(const blink_index *index, blink_map *out) {
-    uint64_t place;
-    int code = blink_map_open_unnamed(index, out, &place);
-    if (code == BLINK_DONE) blink_map_name(out, place);
-    return code;
-}
-
-static inline int blink_map_open_with_room(const blink_index *index, uint32_t pages, uint32_t rows, uint32_t sessions, bool fixed,
-                                           blink_map *out) {
-    uint64_t place;
-    int code = blink_map_open_with_room_unnamed(index, pages, rows, sessions, fixed, out, &place);
-    if (code == BLINK_DONE) blink_map_name(out, place);
-    return code;
-}
+int blink_map_open_with_room(const blink_index *index, uint32_t pages, uint32_t rows, uint32_t sessions, bool fixed, blink_map *out);
 
 /* Stores the page numbers and rows that are enough for so many insertions of absent keys into a map over this index, whatever their keys
  * and their order, by so many sessions, and for any number of other changes. Each leaf of the index may be full and split once; after that
@@ -610,7 +466,8 @@ int blink_map_room_alone(blink_map *map, uint32_t looks, uint64_t *rows, uint64_
 /* Takes the pointer out of a handle, which the caller puts back. Until then this waits in other threads. For the functions below. */
 static inline blink_map blink_map_taken(blink_map *map) {
     blink_map taken;
-    while ((taken.at = __atomic_exchange_n(&map->at, (void *)0, __ATOMIC_ACQUIRE)) == 0) sched_yield();
+    uint32_t pauses = 0;
+    while ((taken.at = __atomic_exchange_n(&map->at, (void *)0, __ATOMIC_ACQUIRE)) == 0) blink_pause(&pauses);
     return taken;
 }
 
@@ -715,12 +572,6 @@ int blink_session_put(blink_session *session, uint64_t key, uint64_t pointer, ui
  * then ended without a change. */
 int blink_session_advance(blink_session *session, uint32_t tries, blink_answer *answer);
 
-/* Tells session `to` what session `from` has seen: then `to` has seen all that `from` has seen. The two handles are different. A session that
- * is held is let go for the call, and is held again afterwards; if the map is being renewed by then, it is free until its next change or
- * hold. Refused, looked for in this order: BLINK_FOREIGN, if the sessions are of two maps; BLINK_PENDING, if an operation of one of the two is
- * under way; BLINK_RENEWING. Then neither has made a change. */
-int blink_session_tell(blink_session *from, blink_session *to, uint32_t tries);
-
 /* Holds the session for the calls that follow, so that they find no renewal, until it is let go. The map is neither renewed nor closed
  * meanwhile, so hold it for a few calls, and let it go before the thread waits for anything. A change of this session that finds the map
  * full lets it go itself, and so does one that goes on: it is held again by the next change. Refused: BLINK_PENDING; BLINK_RENEWING. */
@@ -750,25 +601,26 @@ void blink_session_free(blink_session session);
  *
  * For a thread that may wait. These make a call and go on until it has ended. Where another thread has the page that a change wants, or the
  * session's rows are on their way back, where the map is renewed, or a session that is held or in a call keeps it from being renewed, they
- * let other threads run (sched_yield) and go on. They are made of the calls above, which wait for nobody, and are no exports. Each answers and
+ * let other threads run (blink_pause) and go on. They are made of the calls above, which wait for nobody, and are no exports. Each answers and
  * is refused as the call that it makes, but they never return BLINK_ROWS_BUSY or BLINK_RENEWING, and BLINK_PENDING only if an operation was
  * under way before; then nothing changes.
  */
 
 /* Ends the operation or the put that is under way. Refused: as blink_session_advance, but never with BLINK_PENDING. */
 static inline int blink_session_finish(blink_session *session, blink_answer *answer) {
+    uint32_t pauses = 0;
     int code;
-    while ((code = blink_session_advance(session, BLINK_TRIES, answer)) == BLINK_PENDING) sched_yield();
+    while ((code = blink_session_advance(session, BLINK_TRIES, answer)) == BLINK_PENDING) blink_pause(&pauses);
     return code;
 }
 
 /* Whether a change with this code has to begin once more; if not, `code` is how it has ended. Where the map couldn't be renewed it has ten times
  * as many tries, up to BLINK_MOST_TRIES, so that a renewal outlasts a call of a thread that was preempted. For the functions below. */
-static inline bool blink_session_again(blink_session *session, int *code, uint32_t *tries, blink_answer *answer) {
+static inline bool blink_session_again(blink_session *session, int *code, uint32_t *tries, uint32_t *pauses, blink_answer *answer) {
     if (*code == BLINK_PENDING) *code = blink_session_finish(session, answer);
     if (*code != BLINK_ROWS_BUSY && *code != BLINK_RENEWING) return false;
     if (*code == BLINK_RENEWING && *tries < BLINK_MOST_TRIES) *tries *= 10;
-    sched_yield();
+    blink_pause(pauses);
     return true;
 }
 
@@ -776,18 +628,19 @@ static inline bool blink_session_again(blink_session *session, int *code, uint32
 static inline int blink_session_is_free(blink_session *session) {
     blink_scanned none;
     blink_entry nowhere;
+    uint32_t pauses = 0;
     int code;
-    while ((code = blink_session_scan(session, 1, 0, BLINK_TRIES, &nowhere, 0, &none)) == BLINK_RENEWING) sched_yield();
+    while ((code = blink_session_scan(session, 1, 0, BLINK_TRIES, &nowhere, 0, &none)) == BLINK_RENEWING) blink_pause(&pauses);
     return code;
 }
 
 /* The body of each change below, by a session that has no operation under way: it begins until it has ended. */
-#define BLINK_WAITS(begins)                                      \
-    uint32_t tries = BLINK_TRIES;                                \
-    int code = blink_session_is_free(session);                   \
-    if (code != BLINK_DONE) return code;                         \
-    do code = begins;                                            \
-    while (blink_session_again(session, &code, &tries, answer)); \
+#define BLINK_WAITS(begins)                                               \
+    uint32_t tries = BLINK_TRIES, pauses = 0;                             \
+    int code = blink_session_is_free(session);                            \
+    if (code != BLINK_DONE) return code;                                  \
+    do code = begins;                                                     \
+    while (blink_session_again(session, &code, &tries, &pauses, answer)); \
     return code
 
 static inline int blink_session_insert_wait(blink_session *session, uint64_t key, uint64_t pointer, blink_answer *answer) {
@@ -818,9 +671,10 @@ static inline int blink_session_put_wait(blink_session *session, uint64_t key, u
 #undef BLINK_WAITS
 
 /* The body of each call below: it is made until the map isn't being renewed. */
-#define BLINK_WAITS(call)                               \
-    int code;                                           \
-    while ((code = call) == BLINK_RENEWING) sched_yield(); \
+#define BLINK_WAITS(call)                                          \
+    uint32_t pauses = 0;                                           \
+    int code;                                                      \
+    while ((code = call) == BLINK_RENEWING) blink_pause(&pauses);  \
     return code
 
 static inline int blink_session_find_wait(blink_session *session, uint64_t key, blink_answer *answer) {
@@ -842,11 +696,6 @@ static inline int blink_session_snapshot_wait(blink_session *session, uint64_t l
     BLINK_WAITS(blink_session_snapshot(session, lo, hi, tries, entries, places, taken));
 }
 
-/* It waits as long as one of the two is in a call, or the map is renewed. */
-static inline int blink_session_tell_wait(blink_session *from, blink_session *to) {
-    BLINK_WAITS(blink_session_tell(from, to, BLINK_TRIES));
-}
-
 static inline int blink_session_hold_wait(blink_session *session) {
     BLINK_WAITS(blink_session_hold(session, BLINK_TRIES));
 }
@@ -856,38 +705,6 @@ static inline int blink_session_reserve_wait(blink_session *session, blink_reser
 }
 
 #undef BLINK_WAITS
-
-/* Ends the operation that is under way. Refused: as blink_pass_advance, but never with BLINK_PENDING. */
-static inline int blink_pass_finish(blink_pass *pass, blink_answer *answer) {
-    int code;
-    while ((code = blink_pass_advance(pass, BLINK_TRIES, answer)) == BLINK_PENDING) sched_yield();
-    return code;
-}
-
-static inline int blink_pass_insert_wait(blink_pass *pass, uint64_t key, uint64_t pointer, blink_answer *answer) {
-    int code = blink_pass_begin_insert(pass, key, pointer);
-    return code == BLINK_DONE ? blink_pass_finish(pass, answer) : code;
-}
-
-static inline int blink_pass_delete_wait(blink_pass *pass, uint64_t key, blink_answer *answer) {
-    int code = blink_pass_begin_delete(pass, key);
-    return code == BLINK_DONE ? blink_pass_finish(pass, answer) : code;
-}
-
-static inline int blink_pass_replace_wait(blink_pass *pass, uint64_t key, uint64_t pointer, blink_answer *answer) {
-    int code = blink_pass_begin_replace(pass, key, pointer);
-    return code == BLINK_DONE ? blink_pass_finish(pass, answer) : code;
-}
-
-static inline int blink_pass_exchange_wait(blink_pass *pass, uint64_t key, uint64_t expected, uint64_t pointer, blink_answer *answer) {
-    int code = blink_pass_begin_exchange(pass, key, expected, pointer);
-    return code == BLINK_DONE ? blink_pass_finish(pass, answer) : code;
-}
-
-static inline int blink_pass_delete_exact_wait(blink_pass *pass, uint64_t key, uint64_t expected, blink_answer *answer) {
-    int code = blink_pass_begin_delete_exact(pass, key, expected);
-    return code == BLINK_DONE ? blink_pass_finish(pass, answer) : code;
-}
 
 /* ---- Objects behind pointers: when may one be freed? ----
  *

@@ -1,9 +1,9 @@
 // blink.hpp: blink.h for C++17 and later. Each type has a handle, which it frees, and can be moved and not copied. What a call says of its
-// results, and what it takes from its caller, blink.h says of the function that has the call's name. Four have another name there: remove is
-// delete, remove_exact is delete_exact, size is len, and give_back is blink_table_return.
+// results, and what it takes from its caller, blink.h says of the function that has the call's name. Three have another name there: remove is
+// delete, remove_exact is delete_exact, and size is len.
 //
-// A refusal is thrown as blink::Error, with its code. A call of a session and a change at a table end before they return: they are the functions
-// of blink.h that wait. One call at a time uses an object, also to read, so no call is const; but several threads at once may call join, share
+// A refusal is thrown as blink::Error, with its code. A call of a session ends before it returns: it is a function of blink.h that
+// waits. One call at a time uses an object, also to read, so no call is const; but several threads at once may call join, share
 // and room of one Map, which wait for each other. An object that was moved from can be destroyed and assigned to, and nothing else; one that has
 // closed or shared what it had is such an object too.
 #ifndef BLINK_HPP
@@ -14,6 +14,9 @@
 #endif
 
 #include "blink.h"
+#if BLINK_VERSION_MAJOR != 0
+#error "blink.hpp is of version 0 and blink.h of another: take both from one release"
+#endif
 #include <algorithm>
 #include <cstddef>
 #include <cstdint>
@@ -288,7 +291,6 @@ public:
 
 private:
     friend class Reader;
-    friend class Table;
     friend class Map;
     struct Empty {};
     explicit Index(Empty) {}
@@ -374,8 +376,6 @@ public:
     std::optional<std::vector<Entry>> snapshot(Key lo, Key hi, std::uint32_t tries) {
         return detail::snapshot(&handle_, [](auto... all) { return blink_session_snapshot_wait(all...); }, lo, hi, tries);
     }
-    // Tells the other session what this one has seen.
-    void tell(Session &other) { detail::check(blink_session_tell_wait(&handle_, &other.handle_)); }
     Reserve reserve() {
         Reserve reserve{0, 0, 0, 0, 0};
         detail::check(blink_session_reserve_wait(&handle_, &reserve));
@@ -455,95 +455,6 @@ private:
     struct Empty {};
     explicit Map(Empty) {}
     detail::Handle<blink_map, blink_map_free> handle_;
-};
-
-// The right of one thread to change keys of its own in a table, and to look at all keys.
-class Pass {
-public:
-    std::optional<Pointer> find(Key key) {
-        Answer answer{0, 0};
-        detail::check(blink_pass_find(&handle_, key, &answer));
-        return detail::pointer_of(answer);
-    }
-    std::optional<Pointer> glance(Key key) {
-        Answer answer{0, 0};
-        detail::check(blink_pass_glance(&handle_, key, &answer));
-        return detail::pointer_of(answer);
-    }
-    Answer insert(Key key, Pointer pointer) { return ended(blink_pass_begin_insert(&handle_, key, pointer)); }
-    Answer remove(Key key) { return ended(blink_pass_begin_delete(&handle_, key)); }
-    Answer replace(Key key, Pointer pointer) { return ended(blink_pass_begin_replace(&handle_, key, pointer)); }
-    Answer exchange(Key key, Pointer expected, Pointer pointer) {
-        return ended(blink_pass_begin_exchange(&handle_, key, expected, pointer));
-    }
-    Answer remove_exact(Key key, Pointer expected) { return ended(blink_pass_begin_delete_exact(&handle_, key, expected)); }
-    std::vector<Entry> scan(Key lo, Key hi) {
-        return detail::scanned(&handle_, [](auto... all) { return blink_pass_scan(all...); }, lo, hi);
-    }
-    // The same from the greatest key down.
-    std::vector<Entry> scan_back(Key lo, Key hi) {
-        return detail::scanned_back(&handle_, [](auto... all) { return blink_pass_scan_back(all...); }, lo, hi);
-    }
-    // The first n entries with keys from lo on, or all of these if they are fewer. No others are read.
-    std::vector<Entry> page(Key lo, std::uint64_t n) {
-        return detail::scanned(&handle_, [](auto... all) { return blink_pass_scan(all...); }, lo, detail::no_end, n);
-    }
-    // The last n entries with keys up to hi, the greatest first, in the same way.
-    std::vector<Entry> page_back(Key hi, std::uint64_t n) {
-        return detail::scanned_back(&handle_, [](auto... all) { return blink_pass_scan_back(all...); }, 0, hi, n);
-    }
-    std::optional<std::vector<Entry>> snapshot(Key lo, Key hi, std::uint32_t tries) {
-        return detail::snapshot(&handle_, [](auto... all) { return blink_pass_snapshot(all...); }, lo, hi, tries);
-    }
-    // Tells the other pass what this one has seen.
-    void tell(Pass &other) { detail::check(blink_pass_tell(&handle_, &other.handle_)); }
-    // Hands keys to the other pass. Error BLINK_TRANSFER_NOT_YOURS says no key; blink_pass_transfer does.
-    void transfer(Pass &other, const std::vector<Key> &keys) {
-        Key bad_key = 0;
-        detail::check(blink_pass_transfer(&handle_, &other.handle_, detail::place_of(keys), keys.size(), &bad_key));
-    }
-    blink_pass *handle() noexcept { return &handle_; }
-
-private:
-    friend class Table;
-    Pass() = default;
-    Answer ended(int code) {
-        detail::check(code);
-        Answer answer{0, 0};
-        detail::check(blink_pass_finish(&handle_, &answer));
-        return answer;
-    }
-    detail::Handle<blink_pass, blink_pass_free> handle_;
-};
-
-// The entries of an index, which threads change together, each the keys of its pass.
-class Table {
-public:
-    Table(Index &index, std::uint32_t inserts, std::uint32_t deletes) {
-        detail::check(blink_table_open(&index.handle_, inserts, deletes, &handle_));
-    }
-    // Error BLINK_TAKEN says no key; blink_table_deal does.
-    Pass deal(const std::vector<Key> &keys, std::uint32_t inserts, std::uint32_t deletes) {
-        Pass pass;
-        Key taken = 0;
-        detail::check(blink_table_deal(&handle_, detail::place_of(keys), keys.size(), inserts, deletes, &pass.handle_, &taken));
-        return pass;
-    }
-    // Takes a pass back, which then is empty. Error BLINK_FOREIGN leaves it as it was.
-    void give_back(Pass &pass) {
-        detail::check(blink_table_return(&handle_, &pass.handle_));
-        blink_pass_free(pass.handle_.take());
-    }
-    // Gives the index of all entries, once each pass is given back. The table is given up either way.
-    Index close() {
-        Index index{Index::Empty()};
-        detail::check(blink_table_close(handle_.take(), &index.handle_));
-        return index;
-    }
-    blink_table *handle() noexcept { return &handle_; }
-
-private:
-    detail::Handle<blink_table, blink_table_free> handle_;
 };
 
 } // namespace blink

@@ -1,7 +1,7 @@
 /*
  * blink_tsan.h: what ThreadSanitizer has to be told of blink.h, which includes this where that sanitizer is on.
  *
- * The library isn't compiled with the sanitizer. So it doesn't see that who gets a pointer from a table or a map comes after who stored
+ * The library isn't compiled with the sanitizer. So it doesn't see that who gets a pointer from a map comes after who stored
  * it. The functions below tell it: they release a place of the pointer before the call that stores it, and acquire that place after a call
  * that gives it. There are 1,024 such places, by the pointer's bits; so in rare cases a race between two other records stays unseen. A call
  * by a pointer to a function is not told.
@@ -69,15 +69,6 @@ static inline void blink_tsan_read(const blink_entry *entries, uint64_t count) {
         return code;                                                                                                                       \
     }
 
-BLINK_TSAN_BEGINS(pass_begin_insert, (blink_pass *it, uint64_t key, uint64_t pointer), (it, key, pointer))
-BLINK_TSAN_BEGINS(pass_begin_replace, (blink_pass *it, uint64_t key, uint64_t pointer), (it, key, pointer))
-BLINK_TSAN_BEGINS(pass_begin_exchange, (blink_pass *it, uint64_t key, uint64_t expected, uint64_t pointer), (it, key, expected, pointer))
-BLINK_TSAN_ANSWERS(pass_advance, (blink_pass *it, uint32_t tries, blink_answer *answer), (it, tries, answer))
-BLINK_TSAN_ANSWERS(pass_find, (blink_pass *it, uint64_t key, blink_answer *answer), (it, key, answer))
-BLINK_TSAN_ANSWERS(pass_glance, (blink_pass *it, uint64_t key, blink_answer *answer), (it, key, answer))
-BLINK_TSAN_SCANS(pass_scan, blink_pass)
-BLINK_TSAN_SCANS(pass_scan_back, blink_pass)
-BLINK_TSAN_SNAPSHOTS(pass)
 BLINK_TSAN_STORES(session_insert, (blink_session *it, uint64_t key, uint64_t pointer, uint32_t tries, blink_answer *answer),
                   (it, key, pointer, tries, answer))
 BLINK_TSAN_STORES(session_replace, (blink_session *it, uint64_t key, uint64_t pointer, uint32_t tries, blink_answer *answer),
@@ -96,15 +87,6 @@ BLINK_TSAN_TRIED_SCANS(session_scan, blink_session)
 BLINK_TSAN_TRIED_SCANS(session_scan_back, blink_session)
 BLINK_TSAN_SNAPSHOTS(session)
 
-#define blink_pass_begin_insert(...) blink_tsan_pass_begin_insert(__VA_ARGS__)
-#define blink_pass_begin_replace(...) blink_tsan_pass_begin_replace(__VA_ARGS__)
-#define blink_pass_begin_exchange(...) blink_tsan_pass_begin_exchange(__VA_ARGS__)
-#define blink_pass_advance(...) blink_tsan_pass_advance(__VA_ARGS__)
-#define blink_pass_find(...) blink_tsan_pass_find(__VA_ARGS__)
-#define blink_pass_glance(...) blink_tsan_pass_glance(__VA_ARGS__)
-#define blink_pass_scan(...) blink_tsan_pass_scan(__VA_ARGS__)
-#define blink_pass_scan_back(...) blink_tsan_pass_scan_back(__VA_ARGS__)
-#define blink_pass_snapshot(...) blink_tsan_pass_snapshot(__VA_ARGS__)
 #define blink_session_insert(...) blink_tsan_session_insert(__VA_ARGS__)
 #define blink_session_replace(...) blink_tsan_session_replace(__VA_ARGS__)
 #define blink_session_put(...) blink_tsan_session_put(__VA_ARGS__)

@@ -1,6 +1,7 @@
 #!/bin/sh
-# Installs what ./libblink has built in a folder: the headers into include; the archive, and the shared library with its two links, into lib;
-# blink.pc into lib/pkgconfig; and python/blink.py into share/blink. Each file is copied beside its place first, and all take their places in
+# Installs what ./libblink has built in a folder: the headers into include; the archive, and the shared library with its two links, into lib,
+# and the archive's name alone into lib/blink-static; blink.pc into lib/pkgconfig; what CMake's find_package(blink) reads into lib/cmake/blink;
+# and python/blink.py into share/blink. No file names the prefix, so the folder may be moved. Each file is copied beside its place first, and all take their places in
 # the end. So where one can't be written, none is changed, and no new folder is left.
 #
 #     install.sh DESTDIR PREFIX              PREFIX is where programs find them, and DESTDIR, which may be empty, stands before it
@@ -23,11 +24,12 @@ if [ -n "$uninstall" ]; then
     for it in $headers; do
         rm -f "$root/include/$it"
     done
-    for it in libblink.a "$shared" "$soname" libblink.so pkgconfig/blink.pc; do
+    for it in libblink.a "$shared" "$soname" libblink.so blink-static/libblink.a pkgconfig/blink.pc cmake/blink/blinkConfig.cmake \
+        cmake/blink/blinkConfigVersion.cmake; do
         rm -f "$root/lib/$it"
     done
     rm -f "$root/share/blink/blink.py"
-    for it in /lib/pkgconfig /lib /include /share/blink /share ''; do
+    for it in /lib/pkgconfig /lib/blink-static /lib/cmake/blink /lib/cmake /lib /include /share/blink /share ''; do
         rmdir "$root$it" 2>/dev/null || true
     done
     exit 0
@@ -73,7 +75,7 @@ link() {
     ln -sfn "$1" "$root/$2.new"
 }
 
-for it in include lib lib/pkgconfig share/blink; do
+for it in include lib lib/pkgconfig lib/blink-static lib/cmake/blink share/blink; do
     folder "$root/$it"
 done
 for it in $headers; do
@@ -83,8 +85,13 @@ place "$top/out/libblink.a" lib/libblink.a 644
 place "$top/out/$shared" "lib/$shared" 755
 link "$shared" "lib/$soname"
 link "$soname" lib/libblink.so
-sh "$top/include/pc.sh" "$prefix" lib >"$work/pc"
+link ../libblink.a lib/blink-static/libblink.a
+sh "$top/include/pc.sh" '${pcfiledir}/../..' lib >"$work/pc"
 place "$work/pc" lib/pkgconfig/blink.pc 644
+for it in blinkConfig blinkConfigVersion; do
+    sed "s/@version@/$version/; s/@major@/${version%%.*}/" "$top/include/$it.cmake.in" >"$work/$it"
+    place "$work/$it" "lib/cmake/blink/$it.cmake" 644
+done
 place "$top/python/blink.py" share/blink/blink.py 644
 for it in $placed; do
     mv -fT "$root/$it.new" "$root/$it"

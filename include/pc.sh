@@ -1,6 +1,6 @@
 #!/bin/sh
-# Prints blink.pc, for the headers in PREFIX/include and the libraries in PREFIX/FOLDER. It names the archive, so that a program which is
-# linked by it starts wherever it stands.
+# Prints blink.pc, for the headers in PREFIX/include and the libraries in PREFIX/FOLDER, which may begin with ${pcfiledir}. It names the
+# archive, so that a program which is linked by it starts wherever it stands.
 #
 #     pc.sh PREFIX FOLDER
 set -eu

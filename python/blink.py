@@ -1,13 +1,12 @@
-"""blink.h for Python, by ctypes: an index, readers, a map and a table, whose keys and pointers are integers from 0 to 2**64 - 1.
+"""blink.h for Python, by ctypes: an index, readers and a map, whose keys and pointers are integers from 0 to 2**64 - 1.
 
 This file is the whole module; copy it beside your program, or name its folder by PYTHONPATH. It loads libblink.so.0, which ./libblink
-builds: from the folder that the environment names as BLINK_LIB_DIR, and from no other; or, where that isn't set, from `out` of the
-repository that the file stands in, from `lib` of the prefix that it is installed in, or from where the system looks.
+builds: from the folder that the environment names as BLINK_LIB_DIR, and from no other; or, where that isn't set, from the file's own
+folder, from `out` of the repository that it stands in, from `lib` of the prefix that it is installed in, or from where the system looks.
 
-What a call does, blink.h says of the function that has the call's name. Three have another name there: `remove` is delete, `remove_exact`
-is delete_exact, and `give_back` is blink_table_return. A refusal raises Error. A change at a map or a table ends before its call does. An
-object has a lock, so that threads which use it at once wait for each other; so give each thread a session or a pass. An object that is
-closed raises ValueError.
+What a call does, blink.h says of the function that has the call's name. Two have another name there: `remove` is delete, and
+`remove_exact` is delete_exact. A refusal raises Error. A change of a map ends before its call does. An object has a lock, so that threads
+which use it at once wait for each other; so give each thread a session. An object that is closed raises ValueError.
 
     index = blink.Index(entries=[(7, 70)])
     shared = blink.Map(index)
@@ -26,6 +25,9 @@ import threading
 import time
 from collections import namedtuple
 
+# The version of this module. The library has the same first number.
+_VERSION = "0.1.0"
+
 # What a call returns that may be refused, as blink.h declares it.
 CODE = ctypes.c_int
 
@@ -35,8 +37,7 @@ ABSENT, FOUND, INSERTED, EXISTS, REMOVED, REPLACED = range(6)
 #: The codes of blink.h, by their names without BLINK_.
 CODES = {
     "DONE": 0, "TOO_MANY": 1, "WRONG_LENGTH": 3, "UNKNOWN_OPERATION": 11, "INDEX_TOO_LARGE": 32, "BAD_FAN": 40,
-    "NO_MEMORY": 41, "NOT_ASCENDING": 42, "SHARED": 43, "TAKEN": 51, "NO_ALLOWANCE": 52, "NOT_YOURS": 54, "SPENT": 55,
-    "MISSING": 56, "TABLE_TOO_LARGE": 57, "TRANSFER_NOT_YOURS": 58, "FOREIGN": 63, "PENDING": 90, "IDLE": 91, "RETURNED": 92,
+    "NO_MEMORY": 41, "NOT_ASCENDING": 42, "SHARED": 43, "PENDING": 90, "IDLE": 91,
     "MAP_TOO_LARGE": 101, "BAD_SESSIONS": 102, "NO_SESSION": 103, "FULL": 105,
     "SESSION_MISSING": 106, "ROWS_BUSY": 107, "MAP_CLOSED": 108, "RENEWING": 109,
 }
@@ -62,6 +63,9 @@ Reserve = namedtuple("Reserve", "pages unwritten free taken_out waiting")
 _TRIES = 100
 # The most that a change of a map has which couldn't be renewed: BLINK_MOST_TRIES.
 _MOST_TRIES = 1_000_000
+# How often a thread that waits yields before it sleeps (BLINK_YIELDS), and for how many seconds it sleeps then.
+_YIELDS = 100
+_SLEEP = 50e-6
 
 
 class Error(Exception):
@@ -128,26 +132,17 @@ def _declared():
     yield "blink_index_share", CODE, handle, handle
     yield "blink_reader_join", CODE, handle, handle
     yield "blink_reader_unshare", CODE, handle, handle
-    yield "blink_map_open_unnamed", CODE, handle, handle, keys
-    yield "blink_map_open_with_room_unnamed", CODE, handle, u32, u32, u32, truth, handle, keys
-    yield "blink_map_name", None, handle, u64
+    yield "blink_map_open", CODE, handle, handle
+    yield "blink_map_open_with_room", CODE, handle, u32, u32, u32, truth, handle
     yield "blink_map_join_alone", CODE, handle, handle
     yield "blink_map_room_alone", CODE, handle, u32, keys, keys
     yield "blink_map_renew", CODE, handle, u32
-    yield "blink_table_open_unnamed", CODE, handle, u32, u32, handle, keys
-    yield "blink_table_name", None, handle, u64
-    yield "blink_table_deal", CODE, handle, keys, size, u32, u32, handle, keys
-    yield "blink_table_return", CODE, handle, handle
     yield "blink_map_close", CODE, handle, handle
-    yield "blink_table_close", CODE, _Handle, handle
-    # a call of a session has a number of tries, where one of a pass mostly has none
-    for it, *tries in ("session", u32), ("pass",):
-        yield f"blink_{it}_find", CODE, handle, u64, *tries, answer
-        yield f"blink_{it}_scan", CODE, handle, u64, u64, *tries, entry, size, scanned
-        yield f"blink_{it}_scan_back", CODE, handle, u64, u64, *tries, entry, size, scanned
-        yield f"blink_{it}_snapshot", CODE, handle, u64, u64, u32, entry, size, taken
-        yield f"blink_{it}_tell", CODE, handle, handle, *tries
-        yield f"blink_{it}_advance", CODE, handle, u32, answer
+    yield "blink_session_find", CODE, handle, u64, u32, answer
+    yield "blink_session_scan", CODE, handle, u64, u64, u32, entry, size, scanned
+    yield "blink_session_scan_back", CODE, handle, u64, u64, u32, entry, size, scanned
+    yield "blink_session_snapshot", CODE, handle, u64, u64, u32, entry, size, taken
+    yield "blink_session_advance", CODE, handle, u32, answer
     for it in "insert", "replace", "delete_exact", "put":
         yield f"blink_session_{it}", CODE, handle, u64, u64, u32, answer
     yield "blink_session_delete", CODE, handle, u64, u32, answer
@@ -155,20 +150,14 @@ def _declared():
     yield "blink_session_hold", CODE, handle, u32
     yield "blink_session_let_go", None, handle
     yield "blink_session_reserve", CODE, handle, u32, reserve
-    yield "blink_pass_glance", CODE, handle, u64, answer
-    yield "blink_pass_transfer", CODE, handle, handle, keys, size, keys
-    for it in "insert", "replace", "delete_exact":
-        yield f"blink_pass_begin_{it}", CODE, handle, u64, u64
-    yield "blink_pass_begin_delete", CODE, handle, u64
-    yield "blink_pass_begin_exchange", CODE, handle, u64, u64, u64
-    for it in "index", "reader", "map", "session", "table", "pass":
+    for it in "index", "reader", "map", "session":
         yield f"blink_{it}_free", None, _Handle
 
 
 def _file():
     """What to load, where BLINK_LIB_DIR isn't set."""
     folder = pathlib.Path(__file__).resolve().parent
-    files = [folder.parent / "out" / "libblink.so.0"]
+    files = [folder / "libblink.so.0", folder.parent / "out" / "libblink.so.0"]
     if folder.parts[-2:] == ("share", "blink"):
         files.append(folder.parent.parent / "lib" / "libblink.so.0")
     return next((str(file) for file in files if file.exists()), "libblink.so.0")
@@ -182,10 +171,19 @@ def _load():
         hint = (f"BLINK_LIB_DIR names the folder {named}" if named else
                 "run ./libblink in the repository, or name the library's folder by BLINK_LIB_DIR")
         raise ImportError(f"libblink.so.0 can't be loaded: {hint} ({error})") from None
+    _compare_versions(library)
     for name, result, *parameters in _declared():
         function = getattr(library, name)
         function.restype, function.argtypes = result, parameters
     return library
+
+
+def _compare_versions(library):
+    """Refuses a library whose calls may be others than those of this module."""
+    library.blink_version.restype = ctypes.c_char_p
+    there = library.blink_version().decode()
+    if there.split(".")[0] != _VERSION.split(".")[0]:
+        raise ImportError(f"{library._name} has version {there}, and blink.py {_VERSION}: take both from one release")
 
 
 _library = _load()
@@ -226,6 +224,14 @@ def _pairs(entries, count):
 _MOST = 2**64 - 1
 
 
+def _pauses():
+    """Lets other threads run, each time that a call which waits asks for the next one. A yield lets no thread of lesser priority run."""
+    for _ in range(_YIELDS):
+        yield time.sleep(0)
+    while True:
+        yield time.sleep(_SLEEP)
+
+
 class _Owner:
     """What has a handle. `_kind` is the word of its functions."""
 
@@ -251,8 +257,9 @@ class _Owner:
     def _waits(self, name, *values):
         """The same until the map isn't being renewed; of what is no session one call is enough."""
         with self._lock:
+            pauses = _pauses()
             while (code := self._call(name, *values)) == CODES["RENEWING"]:
-                time.sleep(0)
+                next(pauses)
             return code
 
     def _scan(self, lo, hi, most=_MOST):
@@ -289,6 +296,16 @@ class _Owner:
         if handle.at:
             type(self)._free(handle)
 
+    # A copy would free the handle once more.
+    def __reduce__(self):
+        raise TypeError(f"{type(self).__name__} can't be copied or pickled")
+
+    def __copy__(self):
+        return self.__reduce__()
+
+    def __deepcopy__(self, _):
+        return self.__reduce__()
+
     def __del__(self):
         if hasattr(self, "_lock"):
             self.free()
@@ -309,7 +326,7 @@ class _Owner:
 
 
 class _Updates:
-    """The changes of an index, of sessions and of a pass, each by its `_changes`."""
+    """The changes of an index and of sessions, each by its `_changes`."""
 
     def insert(self, key, pointer):
         return self._changes("insert", key, pointer)
@@ -473,8 +490,38 @@ class Reader(_Reads):
         return Index._filled(lambda out: self._call("unshare", out))
 
 
-class _Seat(_Owner, _Updates):
-    """What sessions and passes have in common. A change has the lock throughout, so that nothing comes between two steps."""
+class Session(_Owner, _Updates):
+    """The right to read and change a map, for a thread. `Map.join` gives it; its place is free again once it is freed. Its calls wait while
+    the map is renewed, and its changes renew it where it is full. A change has the lock throughout, so that nothing comes between two steps."""
+
+    _kind = "session"
+    _tries = (_TRIES,)
+
+    def __init__(self):
+        raise TypeError("Map.join gives sessions")
+
+    # Whether an operation may be under way: an exception, as of a signal's handler, came before its end.
+    _under_way = False
+
+    def _ends(self, change):
+        """Makes a change. What an exception leaves under way is ended before it goes on, or before the next change."""
+        with self._lock:
+            if self._under_way:
+                self._end()
+            self._under_way = True
+            try:
+                code = change()
+            except BaseException:
+                self._end()
+                raise
+            self._under_way = False
+            _check(code)
+
+    def _end(self):
+        answer, pauses = _Answer(), _pauses()
+        while self._handle.at and self._call("advance", _TRIES, answer) == CODES["PENDING"]:
+            next(pauses)
+        self._under_way = False
 
     def _found(self, name, key):
         answer = _Answer()
@@ -513,45 +560,23 @@ class _Seat(_Owner, _Updates):
                 return _pairs(entries, taken.there)
             places = taken.there
 
-    def _with(self, other, name, *values):
-        """Calls a function of this one and another."""
-        # Of two locks the one with the lower address comes first, wherever two name each other at once.
-        first, second = sorted((self, other), key=id)
-        with first._lock, second._lock:
-            other._is_open()
-            _check(self._waits(name, other._handle, *values))
-
-    def tell(self, other):
-        """Tells the other one what this one has seen."""
-        if type(other) is not type(self) or other is self:
-            raise TypeError(f"another {type(self).__name__} is told")
-        self._with(other, "tell", *self._tries)
-
-
-class Session(_Seat):
-    """The right to read and change a map, for a thread. `Map.join` gives it; its place is free again once it is freed. Its calls wait while
-    the map is renewed, and its changes renew it where it is full."""
-
-    _kind = "session"
-    _tries = (_TRIES,)
-
-    def __init__(self):
-        raise TypeError("Map.join gives sessions")
-
     def _changes(self, name, *values):
         """As the functions of blink.h that wait: where the map can't be renewed, each new try looks ten times as often, up to _MOST_TRIES."""
-        values, answer, tries = [_number(value) for value in values], _Answer(), _TRIES
-        with self._lock:
-            code = self._call(name, *values, tries, answer)
+        values, answer = [_number(value) for value in values], _Answer()
+
+        def change():
+            tries, pauses, code = _TRIES, _pauses(), self._call(name, *values, _TRIES, answer)
             while code in (CODES["PENDING"], CODES["ROWS_BUSY"], CODES["RENEWING"]):
-                time.sleep(0)
+                next(pauses)
                 if code == CODES["PENDING"]:
                     code = self._call("advance", _TRIES, answer)
                 else:
                     tries = min(10 * tries, _MOST_TRIES) if code == CODES["RENEWING"] else tries
                     code = self._call(name, *values, tries, answer)
-            _check(code)
-            return Answer(answer.kind, answer.pointer)
+            return code
+
+        self._ends(change)
+        return Answer(answer.kind, answer.pointer)
 
     def put(self, key, pointer):
         """Maps the key to the pointer, and returns the pointer that was there, or None."""
@@ -611,76 +636,6 @@ class Map(_Owner):
         return index
 
 
-class Pass(_Seat):
-    """The right to change some keys of a table, and to look at all, for a thread. `Table.deal` gives it."""
-
-    _kind = "pass"
-
-    def __init__(self):
-        raise TypeError("Table.deal gives passes")
-
-    def glance(self, key):
-        """The pointer of any key, or None, after the changes that the pass has seen."""
-        return self._found("glance", key)
-
-    def _changes(self, name, *values):
-        values, answer = [_number(value) for value in values], _Answer()
-        with self._lock:
-            _check(self._call(f"begin_{name}", *values))
-            while (code := self._call("advance", _TRIES, answer)) == CODES["PENDING"]:
-                time.sleep(0)
-            _check(code)
-            return Answer(answer.kind, answer.pointer)
-
-    def transfer(self, other, keys):
-        """Hands keys to the other pass. Error TRANSFER_NOT_YOURS has the first bad key as `key`."""
-        if type(other) is not Pass or other is self:
-            raise TypeError("keys are handed to another Pass")
-        keys, count = _numbers_of(keys)
-        bad = ctypes.c_uint64()
-        try:
-            self._with(other, "transfer", keys, count, bad)
-        except Error as error:
-            if error.name == "TRANSFER_NOT_YOURS":
-                error.key = bad.value
-            raise
-
-
-class Table(_Owner):
-    """The entries of an index, which threads change together, each the keys of its pass."""
-
-    _kind = "table"
-
-    def __init__(self, index, inserts, deletes):
-        super().__init__()
-        _check(_opens(index, "table_open", _number(inserts, 32), _number(deletes, 32), self._handle))
-
-    def deal(self, keys, inserts, deletes):
-        """Gives a pass with these keys, and room for so many changes. Error TAKEN has the first bad key as `key`."""
-        keys, count = _numbers_of(keys)
-        inserts, deletes, bad = _number(inserts, 32), _number(deletes, 32), ctypes.c_uint64()
-        try:
-            return Pass._filled(lambda out: self._call("deal", keys, count, inserts, deletes, out, bad))
-        except Error as error:
-            if error.name == "TAKEN":
-                error.key = bad.value
-            raise
-
-    def give_back(self, one):
-        """Takes a pass back, which is closed then. Error FOREIGN leaves it as it was."""
-        if type(one) is not Pass:
-            raise TypeError("a Pass is given back")
-        with one._lock:
-            one._is_open()
-            _check(self._call("return", one._handle))
-            one.free()
-
-    def close(self):
-        """Gives the index of all entries, once each pass is given back. The table is given up either way."""
-        handle = self._take()
-        return Index._filled(lambda out: _library.blink_table_close(handle, out))
-
-
 def room_for(index, insertions, sessions):
     """A room that is enough for so many insertions of absent keys into a map over this index, as blink_room_for works it out."""
     insertions, sessions = _number(insertions, 32), _number(sessions, 32)
@@ -693,14 +648,9 @@ def room_for(index, insertions, sessions):
 
 
 def _opens(index, call, *values):
-    """Opens a map or a table, and names it by its place in memory, where no other lies while it lives. Returns the code."""
-    *_room, out = values
-    place = ctypes.c_uint64()
+    """Opens a map over an index. Returns the code."""
     if type(index) is not Index:
         raise TypeError("it is opened over an Index")
     with index._lock:
         index._is_open()
-        code = getattr(_library, f"blink_{call}_unnamed")(index._handle, *values, place)
-    if code == CODES["DONE"]:
-        getattr(_library, f"blink_{call.split('_')[0]}_name")(out, place)
-    return code
+        return getattr(_library, f"blink_{call}")(index._handle, *values)

@@ -1,6 +1,5 @@
 // A market keeps the newest offer of each article in one map. A pointer is the address of an offer, which eight threads write, put, find and
-// read without a lock of their own: an offer is written before it is put, and isn't changed then. Then each thread has articles of its own, at
-// a table, and glances at those of others. Run: records; with the word `planted` a thread changes what it has put, which is a race.
+// read without a lock of their own: an offer is written before it is put, and isn't changed then. Run: records; with the word `planted` a thread changes what it has put, which is a race.
 #include "blink.h"
 #include <pthread.h>
 #include <stdio.h>
@@ -15,7 +14,6 @@ struct offer {
 
 struct worker {
     blink_session market;
-    blink_pass own;
     uint64_t random, written, read, taken;
     struct offer offers[2 * TURNS]; // those that the thread has written
 };
@@ -100,28 +98,9 @@ static void *trades(void *at) {
     return NULL;
 }
 
-// At a table: puts an offer for each article of its own, again and again, and glances at all.
-static void *glances(void *at) {
-    struct worker *self = at;
-    blink_answer answer;
-    for (int turn = 0; turn < TURNS; turn++) {
-        uint64_t article = below(self, ARTICLES);
-        expect(blink_pass_glance(&self->own, article, &answer) == BLINK_DONE, "a glance is refused");
-        if (answer.kind == BLINK_FOUND) reads(self, article, answer.pointer);
-        article -= article % THREADS;
-        article += (uint64_t)(self - workers);
-        if (turn % 20) continue;
-        expect(blink_pass_find(&self->own, article, &answer) == BLINK_DONE, "a find is refused");
-        int code = answer.kind == BLINK_FOUND ? blink_pass_replace_wait(&self->own, article, offer_for(self, article), &answer)
-                                              : blink_pass_insert_wait(&self->own, article, offer_for(self, article), &answer);
-        expect(code == BLINK_DONE, "a change is refused");
-    }
-    return NULL;
-}
-
-static void in_threads(void *(*work)(void *)) {
+static void in_threads(void) {
     pthread_t threads[THREADS];
-    for (int i = 0; i < THREADS; i++) expect(!pthread_create(&threads[i], NULL, work, &workers[i]), "no thread");
+    for (int i = 0; i < THREADS; i++) expect(!pthread_create(&threads[i], NULL, trades, &workers[i]), "no thread");
     for (int i = 0; i < THREADS; i++) pthread_join(threads[i], NULL);
 }
 
@@ -129,38 +108,26 @@ int main(int argc, char **argv) {
     planted = argc > 1 && !strcmp(argv[1], "planted");
     blink_index index = {NULL}, closed = {NULL};
     blink_map map = {NULL};
-    blink_table table = {NULL};
-    uint64_t articles[ARTICLES + THREADS], refused, read = 0;
+    uint64_t read = 0;
     expect(blink_index_new(8, &index) == BLINK_DONE, "no index");
     expect(blink_map_open(&index, &map) == BLINK_DONE, "no map");
     for (int i = 0; i < THREADS; i++) {
         workers[i].random = (uint64_t)i + 1;
         expect(blink_map_join(&map, &workers[i].market) == BLINK_DONE, "no session");
     }
-    in_threads(trades);
-    for (int i = 0; i < THREADS; i++) blink_session_free(workers[i].market);
+    in_threads();
+    for (int i = 0; i < THREADS; i++) {
+        blink_session_free(workers[i].market);
+        expect(workers[i].taken > 0, "no snapshot was taken");
+    }
     expect(blink_map_close(&map, &closed) == BLINK_DONE, "the map can't be closed");
     blink_map_free(map);
     blink_entry entry = {0, 0};
     for (bool there = blink_index_first(&closed, &entry); there; there = blink_index_next(&closed, entry.key, &entry))
         reads(&workers[0], entry.key, entry.pointer);
     blink_index_free(closed);
-
-    expect(blink_table_open(&index, 1000, 3000, &table) == BLINK_DONE, "no table");
-    for (uint64_t i = 0; i < THREADS; i++) {
-        size_t count = 0;
-        for (uint64_t article = i; article < ARTICLES + THREADS; article += THREADS) articles[count++] = article;
-        expect(blink_table_deal(&table, articles, count, 100, 300, &workers[i].own, &refused) == BLINK_DONE, "no pass");
-    }
-    in_threads(glances);
-    for (int i = 0; i < THREADS; i++) {
-        expect(blink_table_return(&table, &workers[i].own) == BLINK_DONE, "a pass doesn't go back");
-        blink_pass_free(workers[i].own);
-        read += workers[i].read;
-        expect(workers[i].taken > 0, "no snapshot was taken");
-    }
-    blink_table_free(table);
     blink_index_free(index);
+    for (int i = 0; i < THREADS; i++) read += workers[i].read;
     printf("%llu offers read\n", (unsigned long long)read);
     puts("each offer was whole");
 }

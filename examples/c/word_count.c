@@ -1,10 +1,9 @@
-// Counts the words of a file by two threads at one table: each counts the words whose hash is its own. Run: word_count FILE
+// Counts the words of a file by two threads at one map, each those of half of the file. Run: word_count FILE
 #include "blink.h"
 #include <ctype.h>
 #include <pthread.h>
 #include <stdio.h>
 #include <stdlib.h>
-#include <string.h>
 
 enum { THREADS = 2, MOST = 1 << 16 };
 
@@ -27,51 +26,52 @@ static void read_words(FILE *file) {
     }
 }
 
-// A key is a word's hash, and its pointer the number of times that the word was met.
-static void *count_own(void *at) {
-    blink_pass *pass = at;
+struct worker {
+    blink_session session;
+    uint32_t first, end; // its words
+};
+
+// A key is a word's hash, and its pointer the number of times that the word was met. The other thread may count the same word.
+static void count_word(blink_session *session, uint64_t word) {
     blink_answer met, answer;
-    for (uint32_t i = 0; i < count; i++) {
-        int code = blink_pass_find(pass, words[i], &met);
-        if (code == BLINK_NOT_YOURS) continue;
-        expect(code);
-        // where the other thread has the page, this one yields
-        if (met.kind == BLINK_ABSENT) expect(blink_pass_insert_wait(pass, words[i], 1, &answer));
-        else expect(blink_pass_replace_wait(pass, words[i], met.pointer + 1, &answer));
+    expect(blink_session_find_wait(session, word, &met));
+    for (;;) {
+        if (met.kind == BLINK_ABSENT) expect(blink_session_insert_wait(session, word, 1, &answer));
+        else expect(blink_session_exchange_wait(session, word, met.pointer, met.pointer + 1, &answer));
+        if (answer.kind == BLINK_INSERTED || answer.kind == BLINK_REPLACED) return;
+        met = answer;
     }
+}
+
+static void *count_part(void *at) {
+    struct worker *self = at;
+    for (uint32_t i = self->first; i < self->end; i++) count_word(&self->session, words[i]);
     return NULL;
 }
 
-static int by_value(const void *a, const void *b) {
-    uint64_t x = *(const uint64_t *)a, y = *(const uint64_t *)b;
-    return (x > y) - (x < y);
-}
-
 int main(int argc, char **argv) {
-    static uint64_t sorted[MOST], keys[THREADS][MOST], taken, the;
-    uint32_t own[THREADS] = {0};
+    struct worker workers[THREADS];
+    pthread_t threads[THREADS];
+    uint64_t the = 0;
     FILE *file = fopen(argc > 1 ? argv[1] : "word_count.c", "r");
     if (file) read_words(file);
-    memcpy(sorted, words, sizeof words);
-    qsort(sorted, count, sizeof *sorted, by_value);
-    for (uint32_t i = 0, t; i < count; i++)
-        if (i == 0 || sorted[i] != sorted[i - 1]) t = sorted[i] % THREADS, keys[t][own[t]++] = sorted[i];
-    blink_index index = {NULL};
-    blink_table table = {NULL};
-    blink_pass passes[THREADS] = {{NULL}};
-    pthread_t threads[THREADS];
+    blink_index index = {NULL}, counted = {NULL};
+    blink_map map = {NULL};
     expect(blink_index_new(32, &index));
-    expect(blink_table_open(&index, own[0] + own[1], THREADS * count, &table));
+    expect(blink_map_open(&index, &map));
     blink_index_free(index);
-    for (int t = 0; t < THREADS; t++) expect(blink_table_deal(&table, keys[t], own[t], own[t], count, &passes[t], &taken));
-    for (int t = 0; t < THREADS; t++) pthread_create(&threads[t], NULL, count_own, &passes[t]);
+    for (uint32_t t = 0; t < THREADS; t++) {
+        workers[t] = (struct worker){{NULL}, count / THREADS * t, t + 1 < THREADS ? count / THREADS * (t + 1) : count};
+        expect(blink_map_join(&map, &workers[t].session));
+    }
+    for (int t = 0; t < THREADS; t++) pthread_create(&threads[t], NULL, count_part, &workers[t]);
     for (int t = 0; t < THREADS; t++) {
         pthread_join(threads[t], NULL);
-        expect(blink_table_return(&table, &passes[t]));
-        blink_pass_free(passes[t]);
+        blink_session_free(workers[t].session);
     }
-    expect(blink_table_close(table, &index));
-    blink_index_find(&index, hashed(hashed(hashed(14695981039346656037u, 't'), 'h'), 'e'), &the);
-    printf("%u words, %zu different, \"the\" %llu times\n", count, blink_index_len(&index), (unsigned long long)the);
-    blink_index_free(index);
+    expect(blink_map_close(&map, &counted));
+    blink_map_free(map);
+    blink_index_find(&counted, hashed(hashed(hashed(14695981039346656037u, 't'), 'h'), 'e'), &the);
+    printf("%u words, %zu different, \"the\" %llu times\n", count, blink_index_len(&counted), (unsigned long long)the);
+    blink_index_free(counted);
 }

@@ -1,4 +1,4 @@
-// Uses each type of blink.hpp: an index, readers in two threads, maps that eight threads change, and a table. Run: all_calls
+// Uses each type of blink.hpp: an index, readers in two threads, and maps that eight threads change. Run: all_calls
 #include <blink.hpp>
 #include <cstdio>
 #include <cstdlib>
@@ -100,7 +100,6 @@ static void shares_a_map() {
     });
     blink::Session one = map.join(), other = map.join();
     CHECK(one.put(5, 7) == THREADS * TURNS && !one.put(KEYS, 8) && is(one.replace(KEYS, 9), BLINK_REPLACED, 8));
-    one.tell(other);
     CHECK(other.find(5) == 7u && is(other.remove_exact(KEYS, 8), BLINK_EXISTS, 9) && is(other.remove(KEYS), BLINK_REMOVED, 9));
     CHECK(other.scan(0, 1000).size() == KEYS && other.scan(6, 6)[0].pointer == THREADS * TURNS && other.scan(200, 300).empty());
     CHECK(other.scan_back(0, 1000).size() == KEYS && other.scan_back(0, 6)[0].key == 6 && other.scan_back(200, 300).empty());
@@ -110,8 +109,6 @@ static void shares_a_map() {
     CHECK(other.page_back(1001, 2)[1].key == 1000 && other.page_back(5000, 5000).size() == KEYS + 1000);
     CHECK(other.snapshot(0, 5000, 10)->size() == KEYS + 1000 && !other.snapshot(0, 1, 0) && other.scan(0, 5000).size() == KEYS + 1000);
     CHECK(one.reserve().pages > 0 && map.room().rows > 0);
-    blink::Map apart;
-    CHECK(refused(BLINK_FOREIGN, [&] { auto foreign = apart.join(); one.tell(foreign); }));
     {
         blink::Map same = map.share();
         blink::Session third = same.join();
@@ -148,7 +145,6 @@ static void lets_a_map_grow() {
     {
         blink::Session::Hold held(one);
         CHECK(one.find(7) == 7u && is(one.insert(5, 50), BLINK_INSERTED, 0) && refused(BLINK_RENEWING, [&] { map.renew(); }));
-        one.tell(other);
         CHECK(refused(BLINK_RENEWING, [&] { map.renew(1); }));
     }
     map.renew();
@@ -179,37 +175,6 @@ static void chooses_the_room_of_a_map(bool fixed) {
     CHECK(refused(BLINK_BAD_SESSIONS, [&] { blink::Map(index, blink::Room{200, 44, 257}, fixed); }));
 }
 
-static void shares_a_table() {
-    blink::Index index(16);
-    blink::Table table(index, 2000, 10);
-    std::vector<blink::Key> keys[2];
-    for (blink::Key key = 0; key < 2000; key++) keys[key % 2].push_back(key);
-    blink::Pass passes[2] = {table.deal(keys[0], 1000, 5), table.deal(keys[1], 1000, 5)};
-    std::vector<std::thread> threads;
-    for (int i = 0; i < 2; i++)
-        threads.emplace_back([&keys, &passes, i] {
-            for (blink::Key key : keys[i]) CHECK(is(passes[i].insert(key, key * 10), BLINK_INSERTED, 0));
-        });
-    for (auto &thread : threads) thread.join();
-    blink::Pass &even = passes[0], &odd = passes[1];
-    CHECK(refused(BLINK_NOT_YOURS, [&] { even.find(1); }) && refused(BLINK_SPENT, [&] { even.insert(2, 0); }));
-    odd.tell(even);
-    CHECK(even.find(2) == 20u && even.glance(3) == 30u && even.scan(0, 5000).size() == 2000 && even.snapshot(1, 2, 1)->size() == 2);
-    CHECK(even.scan_back(0, 5000).size() == 2000 && even.scan_back(0, 3)[0].key == 3);
-    CHECK(even.page(1, 2)[1].key == 2 && even.page_back(3, 1)[0].key == 3);
-    CHECK(is(even.replace(2, 21), BLINK_REPLACED, 20) && is(even.exchange(2, 20, 22), BLINK_EXISTS, 21));
-    CHECK(is(even.remove_exact(2, 21), BLINK_REMOVED, 21) && is(even.remove(4), BLINK_REMOVED, 40) && !even.find(4));
-    CHECK(refused(BLINK_TRANSFER_NOT_YOURS, [&] { even.transfer(odd, {6, 7}); }));
-    even.transfer(odd, {6});
-    CHECK(is(odd.replace(6, 61), BLINK_REPLACED, 60) && even.glance(6));
-    CHECK(refused(BLINK_TAKEN, [&] { table.deal({8}, 0, 0); }));
-    CHECK(refused(BLINK_FOREIGN, [&] { blink::Table(index, 1, 1).give_back(even); }));
-    table.give_back(even);
-    table.give_back(odd);
-    blink::Index closed = table.close();
-    CHECK(closed.size() == 1998 && closed.find(6) == 61u);
-}
-
 int main() {
     uses_an_index();
     shares_an_index();
@@ -217,6 +182,5 @@ int main() {
     lets_a_map_grow();
     chooses_the_room_of_a_map(false);
     chooses_the_room_of_a_map(true);
-    shares_a_table();
     std::puts("all calls are as expected");
 }

@@ -1,11 +1,14 @@
-"""Uses each type of python/blink.py: an index, readers, maps that threads change, and a table. It also compares what the module
+"""Uses each type of python/blink.py: an index, readers, and maps that threads change. It also compares what the module
 declares with include/blink.h, which is read from there or from the folder that is named. Run: all_calls.py [FOLDER]"""
 
+import copy
 import ctypes
 import pathlib
+import pickle
 import re
 import sys
 import threading
+import time
 
 top = pathlib.Path(__file__).resolve().parent.parent.parent
 sys.path.insert(0, str(top / "python"))
@@ -46,7 +49,7 @@ def compares_with_the_header(folder):
         if name == "blink_version":
             continue
         there, wanted = prototypes[name]
-        wanted = [re.sub(r"^blink_(index|reader|table|pass|map|session)\b", "handle", it).replace("size_t", "uint64_t") for it in wanted]
+        wanted = [re.sub(r"^blink_(index|reader|map|session)\b", "handle", it).replace("size_t", "uint64_t") for it in wanted]
         assert [said(it) for it in parameters] == wanted, name
         assert ("void" if result is None else said(result)) == there.replace("size_t", "uint64_t"), name
     version = re.search(r'^#define BLINK_VERSION "(.*)"$', text, re.M)[1]
@@ -149,10 +152,7 @@ def shares_a_map():
     assert one.scan(0, MOST) == [(key, 800) for key in range(10)]
     assert one.scan_back(0, MOST) == [(key, 800) for key in reversed(range(10))]
     assert one.put(5, 7) == 800 and one.put(10, 8) is None and one.replace(10, 9) == (REPLACED, 8)
-    one.tell(other)
     assert other.find(5) == 7 and other.remove_exact(10, 8) == (EXISTS, 9) and other.remove(10) == (REMOVED, 9)
-    refuses(TypeError, one.tell, one)
-    assert refuses(blink.Error, one.tell, blink.Map().join()).name == "FOREIGN"
     for key in range(1000, 2000):
         one.insert(key, key)
     assert len(other.snapshot(0, MOST)) == 1010 and other.snapshot(0, 1, tries=0) is None and len(other.scan(1500, 1999)) == 500
@@ -171,6 +171,53 @@ def shares_a_map():
     # as test.c of crates/blink_c/link has it: two insertions fill a half page of four again
     four = blink.Index(4)
     assert blink.room_for(four, 1000, 2) == (1195, 2990, 2) and blink.room_for(four, 2**32 - 1, 256) == (2**32 - 1, 2**32 - 1, 256)
+
+
+def ends_what_an_exception_interrupts():
+    """An exception comes while a change waits, as of a signal's handler. The change is ended, and the session's next one is made."""
+
+    class Interrupt(Exception):
+        pass
+
+    class Interrupts:
+        """In place of the module that waiting calls sleep by."""
+
+        def sleep(self, _seconds):
+            blink.time = time
+            raise Interrupt
+
+    class Waits:
+        """In place of the library: each put is under way first, and is made by the next steps."""
+
+        under_way = None
+
+        def __getattr__(self, name):
+            return getattr(library, name)
+
+        def blink_session_put(self, _handle, key, pointer, _tries, _answer):
+            self.under_way = self.under_way or (key, pointer)
+            return blink.CODES["PENDING"]
+
+        def blink_session_advance(self, handle, tries, answer):
+            if not self.under_way:
+                return blink.CODES["IDLE"]
+            (key, pointer), self.under_way = self.under_way, None
+            return library.blink_session_put(handle, key, pointer, tries, answer)
+
+    library, session = blink._library, blink.Map().join()
+    blink._library, blink.time = Waits(), Interrupts()
+    refuses(Interrupt, session.put, 3, 30)
+    assert session.put(5, 50) is None and session.put(5, 51) == 50
+    blink._library = library
+    assert session.scan(0, MOST) == [(3, 30), (5, 51)]
+
+
+def copies_nothing():
+    index = blink.Index(4)
+    for it in (index, blink.Map(index), blink.Map(index).join()):
+        refuses(TypeError, copy.copy, it)
+        refuses(TypeError, copy.deepcopy, it)
+        refuses(TypeError, pickle.dumps, it)
 
 
 def lets_a_map_grow():
@@ -192,7 +239,6 @@ def lets_a_map_grow():
     with one.hold():
         assert one.find(7) == 7 and one.insert(5, 50) == (INSERTED, 0)
         assert refuses(blink.Error, shared.renew).name == "RENEWING"
-        one.tell(other)
         assert refuses(blink.Error, shared.renew, 1).name == "RENEWING"
     shared.renew()
     assert other.find(5) == 50 and refuses(blink.Error, shared.close).name == "SESSION_MISSING"
@@ -232,44 +278,13 @@ def chooses_the_room_of_a_map(fixed):
     refuses(TypeError, blink.Map.with_room, 4, 200, 44, 1)
 
 
-def shares_a_table():
-    index = blink.Index()
-    table = blink.Table(index, 200, 10)
-    passes = [table.deal(range(start, 200, 2), 100, 5) for start in range(2)]
-
-    def inserts(start):
-        for key in range(start, 200, 2):
-            assert passes[start].insert(key, key * 10) == (INSERTED, 0)
-
-    in_threads(inserts, range(2))
-    even, odd = passes
-    assert refuses(blink.Error, even.find, 1).name == "NOT_YOURS" and refuses(blink.Error, even.insert, 2, 0).name == "SPENT"
-    odd.tell(even)
-    assert even.find(2) == 20 and even.glance(3) == 30 and len(even.scan(0, MOST)) == 200 and len(even.snapshot(1, 2)) == 2
-    assert len(even.scan_back(0, MOST)) == 200 and even.scan_back(0, 3)[0] == (3, 30)
-    assert even.page_back(3, 1) == [(3, 30)] and even.page(3, 1) == [(3, 30)] and len(even.page(0, 1000)) == 200
-    assert even.replace(2, 21) == (REPLACED, 20) and even.exchange(2, 20, 22) == (EXISTS, 21)
-    assert even.remove_exact(2, 21) == (REMOVED, 21) and even.remove(4) == (REMOVED, 40) and even.find(4) is None
-    assert refuses(blink.Error, even.transfer, odd, [6, 7]).key == 7
-    even.transfer(odd, [6])
-    assert odd.replace(6, 61) == (REPLACED, 60)
-    assert refuses(blink.Error, table.deal, [8], 0, 0).key == 8
-    assert refuses(blink.Error, blink.Table(index, 1, 1).give_back, even).name == "FOREIGN"
-    refuses(TypeError, table.give_back, index)
-    refuses(TypeError, even.tell, index)
-    table.give_back(even)
-    refuses(ValueError, table.give_back, even)
-    table.give_back(odd)
-    closed = table.close()
-    assert len(closed) == 198 and closed.find(6) == 61
-
-
 compares_with_the_header(pathlib.Path(sys.argv[1]) if len(sys.argv) > 1 else top / "include")
 uses_an_index()
 shares_an_index()
 shares_a_map()
+ends_what_an_exception_interrupts()
+copies_nothing()
 lets_a_map_grow()
 chooses_the_room_of_a_map(False)
 chooses_the_room_of_a_map(True)
-shares_a_table()
 print("all calls are as expected")

@@ -1,4 +1,4 @@
-//! The index, the table and the map of libblink beside their peers: all workloads in one run, round by round, a process for each side.
+//! The index and the map of libblink beside their peers: all workloads in one run, round by round, a process for each side.
 //!
 //! ```text
 //! beside                 measures all, and prints the tables as Markdown; out/bench has them, all figures and the plot
@@ -40,7 +40,7 @@ mod turns;
 mod workload;
 
 use map::Map;
-use ours::{ByIndex, ByMap, ByTable};
+use ours::{ByIndex, ByMap};
 use plan::Scale;
 use report::Report;
 use rounds::{measure, room, Choice};
@@ -57,8 +57,6 @@ const END: &str = "<!-- end of what bench/beside wrote -->\n";
 fn side(name: &str, file: &Path) -> Result<(), Box<dyn Error>> {
     match name {
         "map 32" => side::work::<ByMap<32>>(file)?,
-        "table 32" => side::work::<ByTable<32>>(file)?,
-        "table 16" => side::work::<ByTable<16>>(file)?,
         "index 32" => side::work::<ByIndex<32>>(file)?,
         "index 16" => side::work::<ByIndex<16>>(file)?,
         "BTreeMap" => side::work::<Map>(file)?,

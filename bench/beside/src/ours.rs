@@ -1,9 +1,9 @@
-//! The index, the table and the map, with pages of at most `FAN` entries.
+//! The index and the map, with pages of at most `FAN` entries.
 
 use crate::side::{timed, Handle, Side};
 use crate::soak::{memory, Dice};
 use crate::workload::{Case, Mode, Phase, Step, ABSENT, DELETE, INSERT, REPLACE};
-use blink::{Answer, Error, Index, Map, Pass, Room, Session, Table};
+use blink::{Answer, Index, Map, Room, Session};
 use std::sync::Arc;
 use std::time::Instant;
 
@@ -59,132 +59,8 @@ impl<const FAN: u8> Side for ByIndex<FAN> {
     }
 }
 
-/// The table: a pass a thread.
-pub struct ByTable<const FAN: u8> {
-    // The index that it was opened over, and of which entries that is.
-    index: Index,
-    entries: Arc<Vec<(u64, u64)>>,
-    table: Option<Table>,
-    opened: u64,
-    closed: u64,
-}
-
-// A thread's pass, whose finds are of its own keys.
-struct Own(Pass);
-
-impl Handle for Own {
-    fn find(&mut self, key: u64) -> Option<u64> {
-        self.0.get(key).ok()?
-    }
-    fn insert(&mut self, key: u64, pointer: u64) -> bool {
-        self.0.insert(key, pointer) == Ok(Answer::Inserted)
-    }
-    fn delete(&mut self, key: u64) -> Option<u64> {
-        self.0.remove(key).ok()?.pointer()
-    }
-    fn replace(&mut self, key: u64, pointer: u64) -> Option<u64> {
-        self.0.replace(key, pointer).ok()?.pointer()
-    }
-}
-
-// A thread's pass that has no keys, and glances at all.
-struct Any(Pass);
-
-impl Handle for Any {
-    fn find(&mut self, key: u64) -> Option<u64> {
-        self.0.glance(key)
-    }
-    fn scan(&mut self, from: u64, count: usize) -> u64 {
-        sum_of_entries(self.0.range(from..).limit(count))
-    }
-}
-
 fn sum_of_entries(entries: impl Iterator<Item = (u64, u64)>) -> u64 {
     entries.fold(0, |sum, (key, pointer)| sum.wrapping_add(key ^ pointer))
-}
-
-// How many insertions and deletions steps need; a replacement takes a deletion.
-fn allowance<'a>(steps: impl Iterator<Item = &'a Step>) -> (u32, u32) {
-    steps.fold((0, 0), |(inserts, deletes), step| match step.kind {
-        INSERT => (inserts + 1, deletes),
-        DELETE | REPLACE => (inserts, deletes + 1),
-        _ => (inserts, deletes),
-    })
-}
-
-impl<const FAN: u8> ByTable<FAN> {
-    // A pass for each thread, with the keys that its steps have.
-    fn passes(table: &mut Table, phase: &Phase) -> Vec<Own> {
-        phase
-            .threads
-            .iter()
-            .map(|steps| {
-                let mut keys: Vec<u64> = steps.iter().map(|step| step.key).collect();
-                keys.sort_unstable();
-                keys.dedup();
-                let (inserts, deletes) = allowance(steps.iter());
-                Own(table.deal(&keys, inserts, deletes).expect("a pass"))
-            })
-            .collect()
-    }
-}
-
-fn give_back(table: &mut Table, passes: impl Iterator<Item = Pass>) {
-    for pass in passes {
-        table.give_back(pass).expect("the table's own pass");
-    }
-}
-
-impl<const FAN: u8> Side for ByTable<FAN> {
-    fn open(case: &Case, before: Option<Self>) -> Self {
-        let index = match before {
-            Some(before) if Arc::ptr_eq(&before.entries, &case.entries) => before.index,
-            _ => grown(FAN, &case.entries),
-        };
-        let (inserts, deletes) = allowance(case.phases.iter().flat_map(|phase| &phase.threads).flatten());
-        let start = Instant::now();
-        // A table deals with its changes beforehand: of a million insertions it would need more page numbers than there are.
-        let table = match Table::open(&index, inserts, deletes) {
-            Err(Error::TooLarge) => None,
-            opened => Some(opened.expect("a table")),
-        };
-        let opened = start.elapsed().as_nanos() as u64;
-        ByTable { index, entries: case.entries.clone(), table, opened, closed: 0 }
-    }
-
-    fn run(&mut self, phase: &Phase) -> Option<(u64, u64)> {
-        let table = self.table.as_mut()?;
-        match phase.mode {
-            Mode::Own => {
-                let mut passes = Self::passes(table, phase);
-                let told = timed(&mut passes, phase);
-                give_back(table, passes.into_iter().map(|own| own.0));
-                Some(told)
-            }
-            // A pass changes its own keys alone.
-            Mode::Any if phase.changes() => None,
-            Mode::Any | Mode::Scan => {
-                let deal = |_: &Vec<Step>| Any(table.deal(&[], 0, 0).expect("a pass"));
-                let mut passes: Vec<Any> = phase.threads.iter().map(deal).collect();
-                let told = timed(&mut passes, phase);
-                give_back(table, passes.into_iter().map(|any| any.0));
-                Some(told)
-            }
-            Mode::Many => None,
-        }
-    }
-
-    fn contents(&mut self, keys: &[u64]) -> Vec<Option<u64>> {
-        let start = Instant::now();
-        let Some(table) = self.table.take() else { return Vec::new() };
-        let index = table.close([]).expect("an index");
-        self.closed = start.elapsed().as_nanos() as u64;
-        index.get_many(keys)
-    }
-
-    fn beside(&self) -> Vec<(&'static str, u64)> {
-        vec![("open", self.opened), ("close", self.closed)]
-    }
 }
 
 /// The map: a session a thread, which changes any key.
@@ -213,6 +89,15 @@ impl Handle for Session {
     fn scan(&mut self, from: u64, count: usize) -> u64 {
         sum_of_entries(self.range(from..).limit(count))
     }
+}
+
+// How many insertions and deletions steps need; a replacement takes a deletion.
+fn allowance<'a>(steps: impl Iterator<Item = &'a Step>) -> (u32, u32) {
+    steps.fold((0, 0), |(inserts, deletes), step| match step.kind {
+        INSERT => (inserts + 1, deletes),
+        DELETE | REPLACE => (inserts, deletes + 1),
+        _ => (inserts, deletes),
+    })
 }
 
 // A row for each change and for each page that is split, and what each session may have drawn and not used.

@@ -33,7 +33,6 @@ pub struct Group {
 }
 
 pub const FIND: &str = "A find";
-pub const GLANCE: &str = "A glance";
 pub const MANY: &str = "A find, 64 keys by a call";
 pub const SCAN_10: &str = "A scan of 10 entries, an entry";
 pub const SCAN_1000: &str = "A scan of 1,000 entries, an entry";
@@ -58,8 +57,8 @@ pub const OPEN: &str = "Opening it for 12,000 insertions and as many deletions, 
 pub const CLOSE: &str = "Closing it, ms";
 
 /// The tables in the order in which they are told.
-pub const WORKLOADS: [&str; 24] = [
-    FIND, GLANCE, MANY, SCAN_10, SCAN_1000, SCAN_ALL, LOAD, MIXED_80, MIXED_90, MIXED_50, ALL, AMONG, REPLACE, NEAR, LEAF, LONG, YCSB_A, YCSB_B,
+pub const WORKLOADS: [&str; 23] = [
+    FIND, MANY, SCAN_10, SCAN_1000, SCAN_ALL, LOAD, MIXED_80, MIXED_90, MIXED_50, ALL, AMONG, REPLACE, NEAR, LEAF, LONG, YCSB_A, YCSB_B,
     YCSB_C, YCSB_D, YCSB_E, YCSB_F, OPEN, CLOSE,
 ];
 
@@ -134,16 +133,14 @@ impl Group {
     }
 }
 
-// Adds finds, glances and scans to a map's life, and returns their rows. The first finds are told nowhere: what the making of the map left
+// Adds finds and scans to a map's life, and returns their rows. The first finds are told nowhere: what the making of the map left
 // in the caches is another for each side.
 fn looks(model: &mut Model, scale: Scale, threads: &[usize]) -> Vec<(&'static str, Figure)> {
     let (count, size) = (scale.of(100_000), model.len());
     model.finds(Mode::Any, 1, count);
     let mut rows = Vec::new();
-    for (mode, workload) in [(Mode::Own, FIND), (Mode::Any, GLANCE)] {
-        for &threads in threads {
-            rows.push((workload, Figure::Phase(model.finds(mode, threads, count))));
-        }
+    for &threads in threads {
+        rows.push((FIND, Figure::Phase(model.finds(Mode::Own, threads, count))));
     }
     rows.push((MANY, Figure::Phase(model.finds(Mode::Many, 1, count))));
     let all = 200_000usize.div_ceil(size);
@@ -215,7 +212,7 @@ fn meeting(group: &mut Group, scale: Scale) {
     group.add_mixes(&leaf, "16", LEAF, Mix::changes(50, 0, 0), scale.of(100_000), &[1, 4]);
 }
 
-// A map that lives long and stays as large as it is. A table takes 47,662 insertions in all, so most of these changes are replacements.
+// A map that lives long and stays as large as it is: most of these changes are replacements.
 fn long(group: &mut Group, scale: Scale) {
     let base = Model::new(&Keys::random(scale.of(40_000), scale.of(20_000)));
     group.add_mixes(&base, "40,000", LONG, Mix::changes(0, 2, 2), scale.of(1_000_000), &[1, 4]);

@@ -21,8 +21,6 @@ const APART: f64 = 16.0;
 fn style(name: &str) -> (&'static str, f64, &'static str) {
     match name {
         "map 32" => ("#b3001b", 4.0, "none"),
-        "table 32" => ("#e8606f", 3.0, "none"),
-        "table 16" => ("#f0a0a8", 2.0, "none"),
         "Mutex" => ("#1f5fa8", 1.8, "none"),
         "RwLock" => ("#1f5fa8", 1.8, "6 4"),
         "shards" => ("#1f5fa8", 1.8, "2 3"),
@@ -36,8 +34,6 @@ fn style(name: &str) -> (&'static str, f64, &'static str) {
 fn label(name: &str) -> String {
     match name {
         "map 32" => "this map, fan 32".to_string(),
-        "table 32" => "this table, fan 32".to_string(),
-        "table 16" => "this table, fan 16".to_string(),
         "Mutex" | "RwLock" => format!("BTreeMap, {name}"),
         "BTreeMap" => "BTreeMap, never changed".to_string(),
         "shards" => "64 RwLock<BTreeMap>".replace('<', "&lt;").replace('>', "&gt;"),
@@ -155,7 +151,7 @@ fn panel(text: &mut String, title: &str, curves: &[Curve]) {
         let (from, to, below) = (RIGHT + 5.0, RIGHT + 16.0, place + 4.0);
         _ = writeln!(text, r##"<line x1="{from}" y1="{end:.1}" x2="{to}" y2="{place:.1}" stroke="{colour}"/>"##);
         let (name, x) = (label(curve.name), RIGHT + 19.0);
-        let is_ours = curve.name.starts_with("map") || curve.name.starts_with("table");
+        let is_ours = curve.name.starts_with("map");
         let weight = if is_ours { "bold" } else { "normal" };
         _ = writeln!(text, r##"<text x="{x}" y="{below:.1}" fill="{colour}" font-weight="{weight}">{name}</text>"##);
     }

@@ -1,17 +1,16 @@
 //! The figures as tables: for people in Markdown, and whole, with the least and the greatest, a line each.
 
-use crate::plan::{ALL, FIND, GLANCE, LOAD, LONG, MIXED_80, MIXED_90, REPLACE, SCAN_1000, WORKLOADS};
+use crate::plan::{ALL, FIND, LOAD, LONG, MIXED_80, MIXED_90, REPLACE, SCAN_1000, WORKLOADS};
 use crate::rounds::Measured;
 use std::error::Error;
 use std::fmt::Write;
 
-/// The columns that are ours: maps, tables, then indexes, the wider page first.
+/// The columns that are ours: maps, then indexes, the wider page first.
 const MAPS: [&str; 1] = ["map 32"];
-const TABLES: [&str; 2] = ["table 32", "table 16"];
 const INDEXES: [&str; 2] = ["index 32", "index 16"];
 
 // What is compared, and the head of its column.
-const RATIOS: [(&str, &str); 3] = [("map", "map/best"), ("table", "table/best"), ("index", "index/BTreeMap")];
+const RATIOS: [(&str, &str); 2] = [("map", "map/best"), ("index", "index/BTreeMap")];
 
 /// What a column's rounds came to.
 #[derive(Clone, Copy)]
@@ -53,12 +52,12 @@ impl Line {
         of.filter_map(|(_, spread)| spread.map(|spread| spread.median)).min_by(f64::total_cmp)
     }
 
-    // The time of the best fan to that of the best peer, in the order of `RATIOS`: of the map and of the table to what threads may
+    // The time of the best fan to that of the best peer, in the order of `RATIOS`: of the map to what threads may
     // change together, and of the index to a map that one thread has.
-    fn ratios(&self, sides: &[String]) -> [Option<f64>; 3] {
+    fn ratios(&self, sides: &[String]) -> [Option<f64>; 2] {
         let shared = ["Mutex", "RwLock", "shards", "TBB", "JDK", "libcds"];
         let ratio = |ours: &[&str], theirs: &[&str]| Some(self.best(sides, ours)? / self.best(sides, theirs)?);
-        [ratio(&MAPS, &shared), ratio(&TABLES, &shared), ratio(&INDEXES, &["BTreeMap"])]
+        [ratio(&MAPS, &shared), ratio(&INDEXES, &["BTreeMap"])]
     }
 }
 
@@ -149,7 +148,7 @@ fn table(text: &mut String, workload: &str, lines: &[&Line], sides: &[String]) {
     text.push('\n');
 }
 
-// Where the map, the table or the index takes longer than the best peer: how many rows, and which are the worst.
+// Where the map or the index takes longer than the best peer: how many rows, and which are the worst.
 fn losses(text: &mut String, lines: &[Line], sides: &[String]) {
     for (kind, (name, _)) in RATIOS.iter().enumerate() {
         let mut ratios: Vec<(f64, &Line)> = Vec::new();
@@ -188,13 +187,13 @@ pub fn markdown(report: &Report) -> String {
 /// The ratios on 40,000 entries, inserted at random, of the workloads that most callers have.
 pub fn summary(report: &Report) -> String {
     let mut text = String::from("To the best peer|map, 1 thread|2|4|8|index\n|---|---|---|---|---|---|\n");
-    for workload in [FIND, GLANCE, SCAN_1000, LOAD, MIXED_80, MIXED_90, ALL, REPLACE, LONG] {
+    for workload in [FIND, SCAN_1000, LOAD, MIXED_80, MIXED_90, ALL, REPLACE, LONG] {
         let of = |threads| {
             let is_it = |line: &&Line| line.workload == workload && line.entries == "40,000" && line.threads == threads;
-            report.lines.iter().find(is_it).map_or([None; 3], |line| line.ratios(&report.sides))
+            report.lines.iter().find(is_it).map_or([None; 2], |line| line.ratios(&report.sides))
         };
         let maps = [1, 2, 4, 8].map(|threads| cell(of(threads)[0]));
-        _ = writeln!(text, "{workload}|{}|{}", maps.join("|"), cell(of(1)[2]));
+        _ = writeln!(text, "{workload}|{}|{}", maps.join("|"), cell(of(1)[1]));
     }
     text
 }

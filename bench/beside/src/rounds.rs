@@ -27,7 +27,7 @@ pub struct Measured {
 }
 
 /// The sides of this program.
-pub const OWN: [&str; 9] = ["map 32", "table 32", "table 16", "index 32", "index 16", "BTreeMap", "Mutex", "RwLock", "shards"];
+pub const OWN: [&str; 7] = ["map 32", "index 32", "index 16", "BTreeMap", "Mutex", "RwLock", "shards"];
 
 /// The folder for what is built and written: bench/ in out/ at the top of the repository.
 pub fn room() -> PathBuf {
@@ -166,10 +166,10 @@ fn run(peer: &Peer, group: &Group, file: &Path, warm: &Path) -> Result<Told, Box
 // The figure of a row in what a side told.
 fn figure(told: &Told, row: &plan::Row, name: &str) -> Option<f64> {
     let each = |nanoseconds: f64| nanoseconds / row.operations as f64;
-    let is_opened = name.starts_with("table") || name.starts_with("map");
+    let is_opened = name.starts_with("map");
     match row.figure {
         Figure::Phase(place) => told.phases.get(&(row.case, place)).map(|told| each(told.0)),
-        // A table or a map is opened over an index, which isn't its own work.
+        // A map is opened over an index, which isn't its own work.
         Figure::Begin if is_opened => None,
         Figure::Begin => told.beside.get(&(row.case, "begin".to_string())).copied().map(each),
         Figure::Beside(what) => told.beside.get(&(row.case, what.to_string())).map(|time| time / 1e6),

@@ -1,7 +1,7 @@
 //! Calls side by side, by turns, so that what disturbs one disturbs the others: what a session's marks cost, and what scans take.
 
 use crate::workload::{Keys, Random};
-use blink::{Index, Map, Pass, Room, Session, Table};
+use blink::{Index, Map, Room, Session};
 use std::collections::BTreeMap;
 use std::hint::black_box;
 use std::sync::atomic::{AtomicBool, Ordering};
@@ -81,57 +81,24 @@ fn sessions(map: &Map, count: usize) -> Vec<Session> {
     (0..count).map(|_| map.session().expect("a session")).collect()
 }
 
-// What a session's call costs beside a pass's, which announces nothing: finds, and replacements.
-fn marks(index: &Index, keys: &[u64]) {
-    let map = Map::open_with_room(index, Room { pages: 100, rows: 4_096 * THREADS as u32, sessions: THREADS as u32 }).expect("a map");
-    let mut table = Table::open(index, 0, 0).expect("a table");
-    for threads in [1, THREADS] {
-        let draw = |thread: u64| {
-            let mut random = Random(thread);
-            (0..CALLS / threads).map(move |_| keys[random.below(keys.len())])
-        };
-        let mut passes: Vec<Pass> = (0..threads).map(|_| table.deal(&[], 0, 0).expect("a pass")).collect();
-        let session = || timed(sessions(&map, threads), CALLS, |mut session, thread| draw(thread).for_each(|key| assert!(session.get(key).is_some())));
-        let pass = || timed(passes.iter_mut().collect(), CALLS, |pass: &mut Pass, thread| draw(thread).for_each(|key| assert!(pass.glance(key).is_some())));
-        measure(&format!("a find of any key, {threads} threads"), vec![("session", Box::new(session)), ("pass", Box::new(pass))]);
-        let own = |thread: u64| keys.iter().skip(thread as usize).step_by(threads).map(move |&key| (key, key ^ thread));
-        let session = || {
-            timed(sessions(&map, threads), keys.len(), |mut session, thread| own(thread).for_each(|(key, pointer)| _ = session.replace(key, pointer).expect("rows")))
-        };
-        let pass = || {
-            let mut table = Table::open(index, 0, keys.len() as u32).expect("a table");
-            let deal = |thread| {
-                let keys: Vec<u64> = own(thread).map(|(key, _)| key).collect();
-                table.deal(&keys, 0, keys.len() as u32).expect("a pass")
-            };
-            let passes: Vec<Pass> = (0..threads as u64).map(deal).collect();
-            timed(passes, keys.len(), |mut pass, thread| own(thread).for_each(|(key, pointer)| _ = pass.replace(key, pointer).expect("rows")))
-        };
-        measure(&format!("a replacement, {threads} threads"), vec![("session", Box::new(session)), ("pass", Box::new(pass))]);
-    }
-}
-
 // Scans of a thousand entries: alone, by several threads, and beside as many that replace.
 fn scanning(index: &Index, keys: &[u64]) {
     let mut sorted = keys.to_vec();
     sorted.sort_unstable();
     let tree: BTreeMap<u64, u64> = keys.iter().map(|&key| (key, !key)).collect();
     let map = Map::open_with_room(index, Room { pages: 100, rows: 2 * 4_096 * THREADS as u32, sessions: 2 * THREADS as u32 }).expect("a map");
-    let mut table = Table::open(index, 0, 0).expect("a table");
-    let pass = table.deal(&[], 0, 0).expect("a pass");
     let turned: Vec<u64> = sorted.iter().rev().copied().collect();
     let alone = |sorted: &[u64], scan: &mut dyn FnMut(u64) -> u64| {
         let start = Instant::now();
         scans(sorted, 1, SCANS, scan);
         start.elapsed().as_nanos() as f64 / (SCANS * LENGTH) as f64
     };
-    let (mut session, mut pass) = (map.session().expect("a session"), pass);
+    let mut session = map.session().expect("a session");
     for records in ["no records", "records half as many as there is room for"] {
         measure(
             &format!("a scan of 1,000 of 40,000 entries, an entry; leaves of the map have {records}"),
             vec![
                 ("session", Box::new(|| alone(&sorted, &mut |from| sum(session.range(from..))))),
-                ("pass", Box::new(|| alone(&sorted, &mut |from| sum(pass.range(from..))))),
                 ("index", Box::new(|| alone(&sorted, &mut |from| sum(index.range(from..))))),
                 ("BTreeMap", Box::new(|| alone(&sorted, &mut |from| by_tree(&tree, from)))),
             ],
@@ -140,7 +107,6 @@ fn scanning(index: &Index, keys: &[u64]) {
             "the same backwards",
             vec![
                 ("session", Box::new(|| alone(&turned, &mut |to| sum(session.range(..=to).rev())))),
-                ("pass", Box::new(|| alone(&turned, &mut |to| sum(pass.range(..=to).rev())))),
                 ("index", Box::new(|| alone(&turned, &mut |to| sum(index.range(..=to).rev())))),
                 ("BTreeMap", Box::new(|| alone(&turned, &mut |to| sum(tree.range(..=to).rev().map(|(&key, &pointer)| (key, pointer)))))),
             ],
@@ -195,7 +161,6 @@ pub fn turns() {
     let keys = Keys::random(40_000, 0).present;
     let mut index = Index::new(32).expect("an index");
     keys.iter().for_each(|&key| _ = index.insert(key, !key).expect("memory"));
-    marks(&index, &keys);
     scanning(&index, &keys);
 }
 
@@ -300,9 +265,4 @@ pub fn changes() {
     let start = Instant::now();
     keys.iter().for_each(|&key| _ = batch.insert(key, !key).expect("memory"));
     println!("an insertion into an index\t{:.1}", start.elapsed().as_nanos() as f64 / keys.len() as f64);
-    let mut table = Table::open(&index, 0, keys.len() as u32).expect("a table");
-    let mut pass = table.deal(&keys, 0, keys.len() as u32).expect("a pass");
-    let start = Instant::now();
-    keys.iter().for_each(|&key| _ = pass.replace(key, key).expect("rows"));
-    println!("a replacement by a pass\t{:.1}", start.elapsed().as_nanos() as f64 / keys.len() as f64);
 }

@@ -4,7 +4,7 @@
 # prints nothing and exits 0. The C compiler does the comparison: what the sources say is declared once more beside the header. Without
 # a compiler only the names are compared.
 #
-#     compare.sh [LIBRARY ..]    also looks whether each library exports exactly these names, and blink_version of include/version.c
+#     compare.sh [LIBRARY ..]    also looks whether each library exports exactly these names, and those of include/version.c and pause.c
 LC_ALL=C
 export LC_ALL
 here=$(cd "$(dirname "$0")/.." && pwd) || exit 1
@@ -34,9 +34,8 @@ sed 's/|/ | /g' "$work/exports" | awk -F ' [|] ' '
         c["Code"] = "int"; c["u8"] = "uint8_t"; c["u32"] = "uint32_t"; c["u64"] = "uint64_t"; c["usize"] = "size_t"; c["bool"] = "bool"
         c["()"] = "void"; c["RawEntry"] = c["Entry"] = "blink_entry"; c["RawOperation"] = "blink_operation"; c["RawAnswer"] = "blink_answer"
         c["RawScanned"] = "blink_scanned"; c["RawTaken"] = "blink_taken"; c["RawStock"] = "blink_reserve"
-        c["IndexHandle"] = c["IndexSlot"] = "blink_index"; c["TableHandle"] = c["TableSlot"] = "blink_table"
-        c["PassHandle"] = c["PassSlot"] = "blink_pass"; c["MapHandle"] = c["MapSlot"] = "blink_map"
-        c["Place"] = "uint64_t"
+        c["IndexHandle"] = c["IndexSlot"] = "blink_index"
+        c["MapHandle"] = c["MapSlot"] = "blink_map"
         c["SessionHandle"] = c["SessionSlot"] = "blink_session"; c["ReaderHandle"] = c["ReaderSlot"] = "blink_reader"
     }
     {
@@ -59,7 +58,7 @@ sed 's/|/ | /g' "$work/exports" | awk -F ' [|] ' '
 
 # The names in the header, but those of its inline functions.
 sed -n 's/^static inline [^(]*[ *]\(blink_[a-z_]*\)(.*/\1/p' "$header/blink.h" | sort -u >"$work/inline"
-grep -oE '\bblink_(index|reader|table|pass|map|session)_[a-z_]+\(' "$header/blink.h" | tr -d '(' | sort -u | comm -23 - "$work/inline" >"$work/declared"
+grep -oE '\bblink_(index|reader|map|session)_[a-z_]+\(' "$header/blink.h" | tr -d '(' | sort -u | comm -23 - "$work/inline" >"$work/declared"
 cut -d"|" -f1 "$work/exports" | sort >"$work/names"
 diff "$work/names" "$work/declared" | sed -n 's/^< \(.*\)/include\/blink.h: lacks \1/p; s/^> \(.*\)/include\/blink.h: no export \1/p' >>"$work/found"
 
@@ -99,25 +98,12 @@ BAD_FAN ../blink_owners/specs/Codes.antt BadFan
 NO_MEMORY ../blink_owners/specs/Codes.antt OutOfMemory
 NOT_ASCENDING ../blink_index/specs/Codes.antt SortedError.NotAscending
 SHARED ../blink_owners/specs/Codes.antt Shared
-NO_MEMORY ../blink_live/specs/Codes.antt OutOfMemory
-TAKEN ../blink_live/specs/Codes.antt Taken
-NO_ALLOWANCE ../blink_live/specs/Codes.antt NoAllowance
-NO_MEMORY ../blink_live/specs/Codes.antt DealOutOfMemory
-NOT_YOURS ../blink_live/specs/Codes.antt NotYours
-SPENT ../blink_live/specs/Codes.antt Spent
-MISSING ../blink_live/specs/Codes.antt Missing
-TABLE_TOO_LARGE ../blink_live/specs/Codes.antt TooLarge
-TRANSFER_NOT_YOURS ../blink_live/specs/Codes.antt KeyNotYours
-NO_MEMORY ../blink_live/specs/Codes.antt NoMemory
-FOREIGN ../blink_owners/specs/TableCodes.antt Foreign
-PENDING ../blink_owners/specs/TableCodes.antt UnderWay
-IDLE ../blink_owners/specs/TableCodes.antt Idle
-RETURNED ../blink_owners/specs/TableCodes.antt Returned
 NO_MEMORY ../blink_owners/specs/MapCodes.antt OutOfMemory
 MAP_TOO_LARGE ../blink_owners/specs/MapCodes.antt TooLarge
 BAD_SESSIONS ../blink_owners/specs/MapCodes.antt Sessions
 NO_SESSION ../blink_owners/specs/MapCodes.antt NoSession
-FOREIGN ../blink_owners/specs/MapCodes.antt Foreign
+PENDING ../blink_owners/specs/MapCodes.antt UnderWay
+IDLE ../blink_owners/specs/MapCodes.antt Idle
 FULL ../blink_owners/specs/MapCodes.antt Full
 SESSION_MISSING ../blink_owners/specs/MapCodes.antt Missing
 MAP_CLOSED ../blink_owners/specs/MapCodes.antt Closed
@@ -156,7 +142,7 @@ for library in "$@"; do
     case $library in
         *.so) nm -D --defined-only "$library" ;;
         *) nm -g --defined-only "$library" ;;
-    esac | awk 'NF == 3 && $3 != "blink_version" { print $3 }' | sort >"$work/there"
+    esac | awk 'NF == 3 && $3 != "blink_version" && $3 != "blink_pause" { print $3 }' | sort >"$work/there"
     diff "$work/names" "$work/there" | sed -n "s|^< \(.*\)|$library: lacks \1|p; s|^> \(.*\)|$library: \1 is no export|p" >>"$work/found"
 done
 

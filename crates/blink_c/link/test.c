@@ -1,5 +1,4 @@
-// Calls every export: what it gives, each refusal by its code and its text, two threads at one table, eight at one map and at one index, and memory
-// that is refused at each request in turn. An argument leaves out what helgrind can't judge. Link with -Wl,--wrap=malloc,--wrap=realloc.
+// Calls every export: what it gives, each refusal by its code and its text, eight threads at one map and at one index, and memory that is refused at each request in turn. An argument leaves out what helgrind can't judge. Link with -Wl,--wrap=malloc,--wrap=realloc.
 #include "blink.h"
 #include <pthread.h>
 #include <sched.h>
@@ -25,9 +24,8 @@ void *__wrap_realloc(void *at, size_t size) { return refused_at >= 0 && refused_
 // Each code has a text of its own, and no other number has one.
 static void tells_each_code(void) {
     static const int codes[] = {BLINK_DONE, BLINK_TOO_MANY, BLINK_WRONG_LENGTH, BLINK_UNKNOWN_OPERATION, BLINK_INDEX_TOO_LARGE,
-                                BLINK_BAD_FAN, BLINK_NO_MEMORY, BLINK_NOT_ASCENDING, BLINK_SHARED, BLINK_TAKEN, BLINK_NO_ALLOWANCE,
-                                BLINK_NOT_YOURS, BLINK_SPENT, BLINK_MISSING, BLINK_TABLE_TOO_LARGE, BLINK_TRANSFER_NOT_YOURS,
-                                BLINK_FOREIGN, BLINK_PENDING, BLINK_IDLE, BLINK_RETURNED, BLINK_MAP_TOO_LARGE, BLINK_BAD_SESSIONS, BLINK_MAP_CLOSED,
+                                BLINK_BAD_FAN, BLINK_NO_MEMORY, BLINK_NOT_ASCENDING, BLINK_SHARED, BLINK_PENDING,
+                                BLINK_IDLE, BLINK_MAP_TOO_LARGE, BLINK_BAD_SESSIONS, BLINK_MAP_CLOSED,
                                 BLINK_NO_SESSION, BLINK_FULL, BLINK_SESSION_MISSING, BLINK_ROWS_BUSY, BLINK_RENEWING};
     const char *unknown = blink_message(-1);
     size_t count = sizeof codes / sizeof codes[0], told = 0;
@@ -266,215 +264,6 @@ static void runs_batches(void) {
 }
 
 // Ends the operation under way.
-static blink_answer ended(blink_pass *pass) {
-    blink_answer answer;
-    CHECK(blink_pass_finish(pass, &answer) == BLINK_DONE);
-    return answer;
-}
-
-static void refuses_at_a_table(void) {
-    blink_index index = index_of(4, five, 6), closed = {NULL};
-    blink_table table = {NULL}, other = {NULL};
-    blink_pass pass = {NULL}, more = {NULL}, foreign = {NULL};
-    uint64_t keys[] = {1, 6, 1}, taken = 8;
-    blink_answer answer = {9, 9};
-    CHECK(blink_table_open(&index, 47663, 0, &table) == BLINK_TABLE_TOO_LARGE);
-    CHECK(blink_table_open(&index, 2, 2, &table) == BLINK_DONE && blink_table_open(&index, 0, 0, &other) == BLINK_DONE);
-    CHECK(blink_table_deal(&table, keys, 3, 1, 1, &pass, &taken) == BLINK_TAKEN && taken == 1);
-    CHECK(blink_table_deal(&table, keys, 2, 3, 0, &pass, &taken) == BLINK_NO_ALLOWANCE);
-    CHECK(blink_table_deal(&table, keys, 2, 1, 1, &pass, &taken) == BLINK_DONE);
-    CHECK(blink_table_deal(&table, keys + 1, 1, 1, 1, &more, &taken) == BLINK_TAKEN && taken == 6);
-    CHECK(blink_table_deal(&table, keys, 0, 1, 1, &more, &taken) == BLINK_DONE);
-    CHECK(blink_table_deal(&other, keys, 2, 0, 0, &foreign, &taken) == BLINK_DONE);
-    CHECK(blink_pass_find(&pass, 2, &answer) == BLINK_NOT_YOURS && answer.kind == 9);
-    CHECK(blink_pass_find(&pass, 1, &answer) == BLINK_DONE && answer.kind == BLINK_FOUND && answer.pointer == 10);
-    CHECK(blink_pass_glance(&pass, 2, &answer) == BLINK_DONE && answer.pointer == 20);
-    blink_entry range[2] = {{9, 9}, {9, 9}};
-    blink_scanned scanned = {9, 9, 9};
-    CHECK(blink_pass_scan(&pass, 2, 4, range, 2, &scanned) == BLINK_DONE && scanned.filled == 2 && scanned.more == 1 && scanned.next == 4);
-    CHECK(range[0].key == 2 && range[0].pointer == 20 && range[1].key == 3 && range[1].pointer == 30);
-    CHECK(blink_pass_scan(&pass, 4, 4, range, 2, &scanned) == BLINK_DONE && scanned.filled == 1 && scanned.more == 0 && scanned.next == 0);
-    CHECK(range[0].key == 4 && range[1].key == 3);
-    CHECK(blink_pass_scan_back(&pass, 2, 4, range, 2, &scanned) == BLINK_DONE && scanned.filled == 2 && scanned.more == 1 && scanned.next == 2);
-    CHECK(range[0].key == 4 && range[0].pointer == 40 && range[1].key == 3 && range[1].pointer == 30);
-    CHECK(blink_pass_scan_back(&pass, 0, 2, range, 2, &scanned) == BLINK_DONE && scanned.filled == 2 && scanned.more == 0 && scanned.next == 0);
-    CHECK(range[0].key == 2 && range[0].pointer == 20 && range[1].key == 1 && range[1].pointer == 10);
-    blink_taken snapshot = {9, 9};
-    CHECK(blink_pass_snapshot(&pass, 2, 3, 1, range, 2, &snapshot) == BLINK_DONE && snapshot.taken == 1 && snapshot.there == 2);
-    CHECK(range[0].key == 2 && range[0].pointer == 20 && range[1].key == 3 && range[1].pointer == 30);
-    CHECK(blink_pass_snapshot(&pass, 1, 4, 1, range, 1, &snapshot) == BLINK_DONE && snapshot.taken == 1 && snapshot.there == 4);
-    CHECK(range[0].key == 1 && range[1].key == 3);
-    CHECK(blink_pass_snapshot(&pass, 1, 4, 0, range, 2, &snapshot) == BLINK_DONE && snapshot.taken == 0 && snapshot.there == 0);
-    CHECK(range[0].key == 1 && range[1].key == 3);
-    refused_at = 0;
-    CHECK(blink_pass_snapshot(&pass, 1, 4, 1, range, 2, &snapshot) == BLINK_NO_MEMORY && snapshot.taken == 0);
-    refused_at = -1;
-    CHECK(blink_pass_tell(&pass, &foreign) == BLINK_FOREIGN && blink_table_return(&other, &pass) == BLINK_FOREIGN);
-    CHECK(blink_pass_advance(&pass, 1, &answer) == BLINK_IDLE);
-    CHECK(blink_pass_begin_insert(&pass, 2, 0) == BLINK_NOT_YOURS && blink_pass_begin_replace(&pass, 3, 0) == BLINK_NOT_YOURS);
-    CHECK(blink_pass_begin_exchange(&pass, 3, 30, 0) == BLINK_NOT_YOURS);
-    CHECK(blink_pass_begin_delete_exact(&pass, 3, 30) == BLINK_NOT_YOURS);
-    CHECK(blink_pass_begin_insert(&pass, 6, 60) == BLINK_DONE);
-    CHECK(blink_pass_find(&pass, 1, &answer) == BLINK_PENDING && blink_pass_glance(&pass, 1, &answer) == BLINK_PENDING);
-    CHECK(blink_pass_tell(&pass, &more) == BLINK_PENDING && blink_pass_tell(&more, &pass) == BLINK_PENDING);
-    CHECK(blink_pass_begin_delete(&pass, 1) == BLINK_PENDING && blink_table_return(&table, &pass) == BLINK_PENDING);
-    CHECK(blink_pass_delete_wait(&pass, 1, &answer) == BLINK_PENDING && blink_pass_insert_wait(&pass, 1, 0, &answer) == BLINK_PENDING);
-    answer = ended(&pass);
-    CHECK(answer.kind == BLINK_INSERTED);
-    CHECK(blink_pass_finish(&pass, &answer) == BLINK_IDLE && blink_pass_insert_wait(&pass, 6, 60, &answer) == BLINK_SPENT);
-    CHECK(blink_pass_begin_insert(&pass, 6, 60) == BLINK_SPENT);
-    CHECK(blink_pass_begin_delete(&pass, 1) == BLINK_DONE);
-    answer = ended(&pass);
-    CHECK(answer.kind == BLINK_REMOVED && answer.pointer == 10);
-    CHECK(blink_pass_begin_replace(&pass, 6, 61) == BLINK_SPENT && blink_pass_begin_exchange(&pass, 6, 60, 61) == BLINK_SPENT);
-    CHECK(blink_pass_begin_delete_exact(&pass, 6, 60) == BLINK_SPENT);
-    CHECK(blink_pass_tell(&pass, &more) == BLINK_DONE);
-    CHECK(blink_pass_glance(&more, 6, &answer) == BLINK_DONE && answer.kind == BLINK_FOUND && answer.pointer == 60);
-    CHECK(blink_table_return(&table, &pass) == BLINK_DONE && blink_table_return(&table, &pass) == BLINK_RETURNED);
-    CHECK(blink_pass_find(&pass, 1, &answer) == BLINK_RETURNED && blink_pass_advance(&pass, 1, &answer) == BLINK_RETURNED);
-    CHECK(blink_pass_begin_insert(&pass, 6, 60) == BLINK_RETURNED && blink_pass_tell(&more, &pass) == BLINK_RETURNED);
-    blink_pass_free(pass);
-    CHECK(blink_table_return(&table, &more) == BLINK_DONE);
-    blink_pass_free(more);
-    CHECK(blink_table_close(table, &closed) == BLINK_DONE);
-    CHECK(blink_index_len(&closed) == 5 && blink_index_len(&index) == 5);
-    uint64_t pointer;
-    CHECK(blink_index_find(&closed, 6, &pointer) && pointer == 60 && !blink_index_find(&closed, 1, &pointer));
-    blink_index_free(closed);
-    // a pass that isn't given back, and a table that is freed before its pass
-    CHECK(blink_table_close(other, &closed) == BLINK_MISSING);
-    CHECK(blink_pass_glance(&foreign, 1, &answer) == BLINK_DONE && answer.pointer == 10);
-    blink_pass_free(foreign);
-    CHECK(blink_table_open(&index, 1, 1, &table) == BLINK_DONE);
-    blink_table_free(table);
-    blink_index_free(index);
-}
-
-// Whether two calls with these two passes are refused so, before any key is looked at.
-static bool both_refuse(blink_pass *from, blink_pass *to, int code) {
-    uint64_t absent = 9, bad_key = 8;
-    return blink_pass_tell(from, to) == code && blink_pass_transfer(from, to, &absent, 1, &bad_key) == code && bad_key == 8;
-}
-
-static void refuses_in_order(void) {
-    blink_index index = index_of(4, five, 6);
-    blink_table table = {NULL}, other = {NULL};
-    blink_pass free_one = {NULL}, busy = {NULL}, gone = {NULL}, foreign = {NULL};
-    uint64_t keys[] = {1, 2, 3, 4}, taken;
-    CHECK(blink_table_open(&index, 0, 1, &table) == BLINK_DONE && blink_table_open(&index, 0, 0, &other) == BLINK_DONE);
-    CHECK(blink_table_deal(&table, keys, 1, 0, 0, &free_one, &taken) == BLINK_DONE);
-    CHECK(blink_table_deal(&table, keys + 1, 1, 0, 1, &busy, &taken) == BLINK_DONE);
-    CHECK(blink_table_deal(&table, keys + 2, 1, 0, 0, &gone, &taken) == BLINK_DONE);
-    CHECK(blink_table_deal(&other, keys + 3, 1, 0, 0, &foreign, &taken) == BLINK_DONE);
-    CHECK(blink_pass_begin_delete(&busy, 2) == BLINK_DONE && blink_table_return(&table, &gone) == BLINK_DONE);
-    // the tables first, then the first pass, then the second
-    CHECK(both_refuse(&busy, &foreign, BLINK_FOREIGN) && both_refuse(&foreign, &gone, BLINK_FOREIGN));
-    CHECK(both_refuse(&busy, &gone, BLINK_PENDING) && both_refuse(&gone, &busy, BLINK_RETURNED));
-    CHECK(both_refuse(&free_one, &busy, BLINK_PENDING) && both_refuse(&free_one, &gone, BLINK_RETURNED));
-    CHECK(blink_table_return(&other, &busy) == BLINK_FOREIGN && blink_table_return(&other, &gone) == BLINK_FOREIGN);
-    CHECK(blink_table_return(&table, &busy) == BLINK_PENDING && blink_table_return(&table, &gone) == BLINK_RETURNED);
-    blink_pass_free(free_one), blink_pass_free(busy), blink_pass_free(gone), blink_pass_free(foreign);
-    blink_table_free(table), blink_table_free(other);
-    blink_index_free(index);
-}
-
-static bool finds(blink_pass *pass, uint64_t key, uint64_t kind, uint64_t pointer) {
-    blink_answer answer;
-    return blink_pass_find(pass, key, &answer) == BLINK_DONE && answer.kind == kind && answer.pointer == pointer;
-}
-
-// Keys 1 to 5 map to 10 to 50. The first pass inserts key 6; the second gets keys 6 and 1, and deletes 6; both come back, and their
-// keys are dealt again.
-static void hands_keys_over(void) {
-    blink_index index = index_of(4, five, 6), closed = {NULL};
-    blink_table table = {NULL};
-    blink_pass from = {NULL}, to = {NULL}, again = {NULL};
-    uint64_t keys[] = {1, 6, 2}, third[] = {3}, more[] = {6, 1, 9, 6}, twice[] = {6, 1, 6}, taken = 8, bad_key = 8;
-    blink_answer answer;
-    CHECK(blink_table_open(&index, 1, 1, &table) == BLINK_DONE);
-    CHECK(blink_table_deal(&table, keys, 3, 1, 0, &from, &taken) == BLINK_DONE);
-    CHECK(blink_table_deal(&table, third, 1, 0, 1, &to, &taken) == BLINK_DONE);
-    CHECK(blink_pass_begin_insert(&from, 6, 60) == BLINK_DONE && ended(&from).kind == BLINK_INSERTED);
-    CHECK(blink_pass_transfer(&from, &to, third, 1, &bad_key) == BLINK_TRANSFER_NOT_YOURS && bad_key == 3);
-    CHECK(blink_pass_transfer(&from, &to, more, 4, &bad_key) == BLINK_TRANSFER_NOT_YOURS && bad_key == 9);
-    CHECK(blink_pass_transfer(&from, &to, twice, 3, &bad_key) == BLINK_TRANSFER_NOT_YOURS && bad_key == 6);
-    CHECK(finds(&from, 6, BLINK_FOUND, 60) && blink_pass_find(&to, 6, &answer) == BLINK_NOT_YOURS);
-    bad_key = 8;
-    CHECK(blink_pass_transfer(&from, &to, twice, 2, &bad_key) == BLINK_DONE && bad_key == 8);
-    CHECK(blink_pass_find(&from, 6, &answer) == BLINK_NOT_YOURS && finds(&from, 2, BLINK_FOUND, 20));
-    CHECK(finds(&to, 6, BLINK_FOUND, 60) && finds(&to, 1, BLINK_FOUND, 10) && finds(&to, 3, BLINK_FOUND, 30));
-    CHECK(blink_pass_begin_insert(&to, 1, 11) == BLINK_SPENT && blink_pass_begin_delete(&from, 2) == BLINK_SPENT);
-    CHECK(blink_pass_begin_delete(&to, 6) == BLINK_DONE && ended(&to).pointer == 60);
-    // with no key at all the first still sees what the second has seen
-    CHECK(blink_pass_transfer(&to, &from, twice, 0, &bad_key) == BLINK_DONE);
-    CHECK(blink_pass_glance(&from, 6, &answer) == BLINK_DONE && answer.kind == BLINK_ABSENT);
-    CHECK(blink_table_return(&table, &from) == BLINK_DONE);
-    CHECK(blink_table_deal(&table, keys, 3, 0, 0, &again, &taken) == BLINK_TAKEN && taken == 1);
-    CHECK(blink_table_return(&table, &to) == BLINK_DONE);
-    CHECK(blink_table_deal(&table, keys, 3, 0, 0, &again, &taken) == BLINK_DONE);
-    CHECK(finds(&again, 6, BLINK_ABSENT, 0) && finds(&again, 1, BLINK_FOUND, 10) && finds(&again, 2, BLINK_FOUND, 20));
-    blink_pass_free(from), blink_pass_free(to);
-    CHECK(blink_table_return(&table, &again) == BLINK_DONE);
-    blink_pass_free(again);
-    CHECK(blink_table_close(table, &closed) == BLINK_DONE && blink_index_len(&closed) == 5);
-    uint64_t pointer;
-    CHECK(blink_index_find(&closed, 3, &pointer) && pointer == 30 && !blink_index_find(&closed, 6, &pointer));
-    blink_index_free(closed);
-    blink_index_free(index);
-}
-
-enum { THREADS = 2, KEYS = 2000 };
-
-// Inserts, replaces, exchanges and deletes the thread's own keys by its own pass, and looks at them all.
-static void *changes_its_keys(void *at) {
-    blink_pass *pass = at;
-    blink_answer answer;
-    uint64_t first = 0;
-    while (blink_pass_find(pass, first, &answer) == BLINK_NOT_YOURS) first++;
-    for (uint64_t key = first; key < THREADS * KEYS; key += THREADS) {
-        CHECK(blink_pass_insert_wait(pass, key, key, &answer) == BLINK_DONE && answer.kind == BLINK_INSERTED);
-        CHECK(blink_pass_replace_wait(pass, key, key + 1, &answer) == BLINK_DONE);
-        CHECK(answer.kind == BLINK_REPLACED && answer.pointer == key);
-        CHECK(blink_pass_exchange_wait(pass, key, key, key + 2, &answer) == BLINK_DONE);
-        CHECK(answer.kind == BLINK_EXISTS && answer.pointer == key + 1);
-        CHECK(blink_pass_begin_exchange(pass, key, key + 1, key + 1) == BLINK_DONE && ended(pass).kind == BLINK_REPLACED);
-        if (key % 3 == 0) {
-            CHECK((key % 2 ? blink_pass_delete_wait(pass, key, &answer) : blink_pass_delete_exact_wait(pass, key, key + 1, &answer)) ==
-                  BLINK_DONE);
-            CHECK(answer.kind == BLINK_REMOVED);
-        }
-        CHECK(blink_pass_find(pass, key, &answer) == BLINK_DONE && answer.kind == (key % 3 ? BLINK_FOUND : BLINK_ABSENT));
-    }
-    return NULL;
-}
-
-static void shares_a_table(void) {
-    blink_index index = {NULL}, closed = {NULL};
-    blink_table table = {NULL};
-    blink_pass passes[THREADS] = {{NULL}};
-    pthread_t threads[THREADS];
-    uint64_t taken, keys[KEYS];
-    CHECK(blink_index_new(4, &index) == BLINK_DONE);
-    CHECK(blink_table_open(&index, THREADS * KEYS, THREADS * KEYS * 4, &table) == BLINK_DONE);
-    for (uint64_t i = 0; i < THREADS; i++) {
-        for (uint64_t k = 0; k < KEYS; k++) keys[k] = k * THREADS + i;
-        CHECK(blink_table_deal(&table, keys, KEYS, KEYS, KEYS * 4, &passes[i], &taken) == BLINK_DONE);
-    }
-    for (int i = 0; i < THREADS; i++) CHECK(pthread_create(&threads[i], NULL, changes_its_keys, &passes[i]) == 0);
-    for (int i = 0; i < THREADS; i++) {
-        CHECK(pthread_join(threads[i], NULL) == 0);
-        CHECK(blink_table_return(&table, &passes[i]) == BLINK_DONE);
-        blink_pass_free(passes[i]);
-    }
-    CHECK(blink_table_close(table, &closed) == BLINK_DONE);
-    CHECK(blink_index_len(&closed) == THREADS * KEYS - (THREADS * KEYS + 2) / 3);
-    uint64_t pointer;
-    for (uint64_t key = 0; key < THREADS * KEYS; key++)
-        CHECK(blink_index_find(&closed, key, &pointer) == (key % 3 != 0) && (key % 3 == 0 || pointer == key + 1));
-    blink_index_free(closed);
-    blink_index_free(index);
-}
-
 enum { NONE = 100 }; // a pointer for the calls that take none
 
 // An operation by a session, to its end.
@@ -556,7 +345,6 @@ static void changes_a_map(void) {
     CHECK(is(exchanges(&one, 7, 73, 72), BLINK_REPLACED, 73) && is(exchanges(&one, 9, 0, 90), BLINK_ABSENT, 0));
     CHECK(is(removes(&one, 4, 41), BLINK_EXISTS, 40) && is(removes(&one, 9, 90), BLINK_ABSENT, 0));
     CHECK(is(puts_so(&one, 8, 80), BLINK_INSERTED, 0) && is(removes(&one, 8, 80), BLINK_REMOVED, 80));
-    CHECK(blink_session_tell(&one, &other, 1) == BLINK_DONE);
     CHECK(is(changes(&other, BLINK_FIND, 7, NONE), BLINK_FOUND, 72) && is(changes(&other, BLINK_FIND, 2, NONE), BLINK_ABSENT, 0));
     CHECK(is(changes(&other, BLINK_DELETE, 6, NONE), BLINK_REMOVED, 62));
     // a snapshot that is refused memory, and a scan into no place, leave the session at rest: the map closes
@@ -647,7 +435,6 @@ static void refuses_at_a_map(void) {
     blink_map map = map_with_room(&index, 22, 46, 2, true), other = map_with_room(&index, 0, 0, 256, true);
     blink_session one = session_of(&map), two = session_of(&map), foreign = session_of(&other);
     CHECK(blink_map_join(&map, &none) == BLINK_NO_SESSION && none.at == NULL);
-    CHECK(blink_session_tell(&one, &foreign, 1) == BLINK_FOREIGN && blink_session_tell(&foreign, &one, 1) == BLINK_FOREIGN);
     CHECK(blink_session_advance(&one, 1, &answer) == BLINK_IDLE && answer.kind == 9);
     // the first session draws 44 rows and all 22 numbers, so there are 2 rows for the second, and no number
     CHECK(is(changes(&one, BLINK_INSERT, 6, 60), BLINK_INSERTED, 0));
@@ -703,8 +490,6 @@ static void holds_a_session(void) {
     CHECK(blink_map_renew(&map, 1) == BLINK_RENEWING && is(changes(&one, BLINK_FIND, 3, NONE), BLINK_FOUND, 30));
     CHECK(is(puts_so(&one, 6, 60), BLINK_INSERTED, 0) && is(puts_so(&other, 7, 70), BLINK_INSERTED, 0));
     CHECK(blink_map_renew(&map, 1) == BLINK_RENEWING && blink_map_room(&map, 1, &rows, &pages) == BLINK_DONE && rows > 0 && pages > 0);
-    CHECK(blink_session_tell(&one, &other, 1) == BLINK_DONE && blink_map_renew(&map, 1) == BLINK_RENEWING);
-    CHECK(blink_session_tell_wait(&other, &one) == BLINK_DONE && blink_map_renew(&map, 1) == BLINK_RENEWING);
     blink_session_let_go(&one);
     CHECK(blink_map_renew(&map, 1) == BLINK_DONE && blink_session_hold_wait(&other) == BLINK_DONE);
     CHECK(blink_map_renew(&map, 1) == BLINK_RENEWING && blink_map_close(&map, &closed) == BLINK_SESSION_MISSING);
@@ -819,8 +604,6 @@ static void refuses_under_way(bool fixed) {
     CHECK(blink_session_reserve(&one, 1, &stock) == BLINK_PENDING && blink_session_reserve_wait(&one, &stock) == BLINK_PENDING);
     CHECK(stock.pages == 9 && stock.waiting == 9);
     CHECK(blink_session_hold(&one, 1) == BLINK_PENDING && blink_session_hold_wait(&one) == BLINK_PENDING);
-    CHECK(blink_session_tell(&one, &other, 1) == BLINK_PENDING && blink_session_tell_wait(&other, &one) == BLINK_PENDING);
-    CHECK(blink_session_tell(&one, &foreign, 1) == BLINK_FOREIGN && blink_session_tell(&foreign, &one, 1) == BLINK_FOREIGN);
     CHECK(blink_map_renew(&map, 1) == unrenewed && blink_map_close(&map, &closed) == BLINK_SESSION_MISSING && closed.at == NULL);
     CHECK(answer.kind == 9 && is(changes(&other, BLINK_FIND, 3, NONE), BLINK_FOUND, 30));
     CHECK(blink_session_advance(&one, 1, &answer) == BLINK_DONE && is(answer, BLINK_INSERTED, 0));
@@ -880,29 +663,19 @@ static void refuses_the_other_half(void) {
     blink_index_free(index);
 }
 
-// A session and a pass live on after their map and their table, whose places no other gets meanwhile.
-static void tells_others_apart(void) {
+// A session lives on after its map, beside other maps.
+static void outlives_its_map(void) {
     blink_index index = index_of(4, five, 6);
     blink_map map = map_with_room(&index, 0, 0, 2, true);
-    blink_table table = {NULL};
     blink_session session = session_of(&map);
-    blink_pass pass = {NULL};
-    uint64_t key = 3, taken, bad_key = 8;
-    CHECK(blink_table_open(&index, 0, 0, &table) == BLINK_DONE && blink_table_deal(&table, &key, 1, 0, 0, &pass, &taken) == BLINK_DONE);
-    blink_map_free(map), blink_table_free(table);
+    blink_map_free(map);
     for (int turn = 0; turn < 100; turn++) {
-        blink_pass more = {NULL};
-        table.at = NULL;
         map = map_with_room(&index, 0, 0, 2, turn % 2);
         blink_session other = session_of(&map);
-        CHECK(blink_session_tell(&session, &other, 1) == BLINK_FOREIGN && blink_session_tell(&other, &session, 1) == BLINK_FOREIGN);
+        CHECK(is(changes(&session, BLINK_FIND, 3, NONE), BLINK_FOUND, 30) && is(changes(&other, BLINK_FIND, 3, NONE), BLINK_FOUND, 30));
         blink_session_free(other), blink_map_free(map);
-        CHECK(blink_table_open(&index, 0, 0, &table) == BLINK_DONE && blink_table_return(&table, &pass) == BLINK_FOREIGN);
-        CHECK(blink_table_deal(&table, &key, 1, 0, 0, &more, &taken) == BLINK_DONE && blink_pass_tell(&pass, &more) == BLINK_FOREIGN);
-        CHECK(blink_pass_transfer(&more, &pass, &key, 1, &bad_key) == BLINK_FOREIGN && bad_key == 8);
-        blink_pass_free(more), blink_table_free(table);
     }
-    blink_session_free(session), blink_pass_free(pass);
+    blink_session_free(session);
     blink_index_free(index);
 }
 
@@ -1126,22 +899,6 @@ static void shares_an_index(void) {
     blink_reader_free(reader);
 }
 
-// Hands the pass's key to a new pass, which takes memory: whether none was refused. A refusal leaves both passes as they were.
-static bool gives_up_its_key(blink_table *table, blink_pass *pass, uint64_t key) {
-    blink_pass to = {NULL};
-    blink_answer answer;
-    uint64_t bad_key = 8;
-    int code = blink_table_deal(table, &key, 0, 0, 0, &to, &bad_key);
-    if (code != BLINK_DONE) return CHECK(code == BLINK_NO_MEMORY), false;
-    code = blink_pass_transfer(pass, &to, &key, 1, &bad_key);
-    CHECK((code == BLINK_DONE || code == BLINK_NO_MEMORY) && bad_key == 8);
-    CHECK(blink_pass_find(pass, key, &answer) == (code == BLINK_DONE ? BLINK_NOT_YOURS : BLINK_DONE));
-    CHECK(blink_pass_find(&to, key, &answer) == (code == BLINK_DONE ? BLINK_DONE : BLINK_NOT_YOURS));
-    CHECK(blink_table_return(table, &to) == BLINK_DONE);
-    blink_pass_free(to);
-    return code == BLINK_DONE;
-}
-
 // Makes a call with each of its requests for memory refused in turn, until it is made. After each refusal `still` holds. Of the many requests
 // for the places of 256 sessions, which are alike, every 31st is refused.
 #define UNTIL_MADE(call, still)                                                             \
@@ -1204,12 +961,9 @@ static bool uses_readers(blink_index *index) {
 
 // One use of everything else that takes memory, up to the first refusal: whether nothing was refused.
 static bool uses_memory(void) {
-    blink_index index = {NULL}, copy = {NULL}, closed = {NULL};
-    blink_table table = {NULL};
-    blink_pass pass = {NULL};
+    blink_index index = {NULL}, copy = {NULL};
     blink_operation operation = {BLINK_INSERT, 6, 60};
     blink_answer answer = {9, 9};
-    uint64_t key = 7, taken = 8;
     uint8_t text[300];
     int code;
     size_t bytes;
@@ -1221,22 +975,8 @@ static bool uses_memory(void) {
         CHECK(code == BLINK_NO_MEMORY);
     else if ((code = blink_index_dump(&copy, text, sizeof text, &bytes)) != BLINK_DONE)
         CHECK(code == BLINK_NO_MEMORY);
-    else if ((code = blink_table_open(&copy, 1, 1, &table)) != BLINK_DONE)
-        CHECK(code == BLINK_NO_MEMORY);
-    else {
-        if ((code = blink_table_deal(&table, &key, 1, 1, 1, &pass, &taken)) != BLINK_DONE)
-            CHECK(code == BLINK_NO_MEMORY && taken == 8);
-        else {
-            all = gives_up_its_key(&table, &pass, key);
-            CHECK(blink_table_return(&table, &pass) == BLINK_DONE);
-            blink_pass_free(pass);
-        }
-        code = blink_table_close(table, &closed);
-        CHECK(code == BLINK_DONE || code == BLINK_NO_MEMORY);
-        all = all && code == BLINK_DONE;
-        if (code == BLINK_DONE) blink_index_free(closed);
-        all = all && uses_readers(&copy);
-    }
+    else
+        all = uses_readers(&copy);
     if (copy.at) blink_index_free(copy);
     blink_index_free(index);
     return all;
@@ -1252,10 +992,6 @@ int main(int argc, char **argv) {
     changes_in_place();
     changes_nothing_without_memory();
     runs_batches();
-    refuses_at_a_table();
-    refuses_in_order();
-    hands_keys_over();
-    shares_a_table();
     changes_a_map();
     has_room_for_its_insertions();
     changes_end_at_once();
@@ -1265,7 +1001,7 @@ int main(int argc, char **argv) {
     refuses_under_way(true);
     refuses_under_way(false);
     refuses_the_other_half();
-    tells_others_apart();
+    outlives_its_map();
     shares_a_map();
     if (argc == 1) joins_at_once();
     opens_a_map_with_room(true);

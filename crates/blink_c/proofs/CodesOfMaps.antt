@@ -1,7 +1,7 @@
 -- The codes of the refusals of a map or its session.
 use Rattle.std.proofs.Common.{◌≡◌, arith}
 use Rattle.blink_owners.specs.declared.map_refusal.MapRefusal.{MapRefusal}
-use Rattle.blink_owners.specs.declared.map_refusal.MapRefusal.TheVariants.{OutOfMemory, TooLarge, Sessions, NoSession, Busy, Full, RowsBusy, Missing, Foreign, UnderWay, Idle, Closed}
+use Rattle.blink_owners.specs.declared.map_refusal.MapRefusal.TheVariants.{OutOfMemory, TooLarge, Sessions, NoSession, Busy, Full, RowsBusy, Missing, UnderWay, Idle, Closed}
 use Rattle.blink_owners.specs.MapCodes.{code_of}
 
 -- no refusal has the code of a call that isn't refused
@@ -14,7 +14,6 @@ not_done Busy is = omega (arith, is)
 not_done Full is = omega (arith, is)
 not_done RowsBusy is = omega (arith, is)
 not_done Missing is = omega (arith, is)
-not_done Foreign is = omega (arith, is)
 not_done UnderWay is = omega (arith, is)
 not_done Idle is = omega (arith, is)
 not_done Closed is = omega (arith, is)

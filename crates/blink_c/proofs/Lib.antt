@@ -7,10 +7,7 @@ pub mod SlotEmpty
 pub mod SlotIntoHandle
 pub mod IndexKind
 pub mod ReaderKind
-pub mod TableKind
-pub mod PassKind
 pub mod MapKind
 pub mod SessionKind
 pub mod CodesOfMaps
 pub mod Codes
-pub mod CodesOfTables

@@ -1,14 +1,11 @@
--- What the exports make of a session or a pass that run or begin an operation which changes the tree.
+-- What an export makes of a session by which it runs an operation that changes the tree.
 use Rattle.std.specs.Prelude.{◌≡◌, ◌≢◌, ℕ}
 use Rattle.blink_batch.specs.declared.Op.{Op}
-use Rattle.blink_owners.specs.declared.pass_owner.PassOwner.{PassOwner}
 use Rattle.blink_owners.specs.declared.raw.RawAnswer.{RawAnswer}
 use Rattle.blink_owners.specs.declared.session_owner.SessionOwner.{SessionOwner}
 use Rattle.blink_owners.specs.Codes.{TellsWhy}
 use Rattle.blink_owners.specs.MapCodes as map
-use Rattle.blink_owners.specs.Passes.{Begins, IsBeginRefusal, IsOwn}
 use Rattle.blink_owners.specs.Sessions.{Answers, IsChangeRefusal, IsOwnSession}
-use Rattle.blink_owners.specs.TableCodes as table
 
 -- a session's operation has ended with the answer, or the code tells why it hasn't, and then the place of the answer is as it was
 pub record ChangesMap (op : Op) (old new : SessionOwner) (before given : RawAnswer) (code : ℕ) : Type 0 where
@@ -16,10 +13,3 @@ pub record ChangesMap (op : Op) (old new : SessionOwner) (before given : RawAnsw
   pub answered : code ≡ 0 → Answers op old new given
   pub refused : TellsWhy map.code_of (IsChangeRefusal op old new) code
   pub unchanged : code ≢ 0 → given ≡ before
-
--- a pass's operation has begun, or the code tells why it hasn't, and then the pass is as it was
-pub record BeginsChange (op : Op) (old new : PassOwner) (code : ℕ) : Type 0 where
-  pub its_own : IsOwn new
-  pub begun : code ≡ 0 → Begins op old new
-  pub refused : TellsWhy table.code_of (IsBeginRefusal op old.held) code
-  pub unchanged : code ≢ 0 → new ≡ old

@@ -5,15 +5,11 @@
 -- what each handle owns, and what it is once what it lent comes back
 pub mod IndexOwned
 pub mod IndexLending
-pub mod TableOwned
-pub mod TableLending
-pub mod PassOwned
-pub mod PassLending
 pub mod MapOwned
 pub mod MapLending
 pub mod SessionOwned
 pub mod SessionLending
 pub mod ReaderOwned
 pub mod ReaderLending
--- what an export makes of a session or a pass by which an operation runs or begins
+-- what an export makes of a session by which it runs a change
 pub mod Changing

@@ -1,4 +1,4 @@
-//! The index, the table and the map for programs in C and Rust: a static library whose exports each call a call of `blink_owners` or
+//! The index and the map for programs in C and Rust: a static library whose exports each call a call of `blink_owners` or
 //! `blink_index`, and turn its answer into a code. `include/blink.h` declares them.
 #![tactic(auto)]
 
@@ -14,10 +14,6 @@ mod map;
 mod map_handle;
 mod map_slot;
 mod parts;
-mod pass;
-mod pass_handle;
-mod pass_slot;
-mod place;
 mod reader;
 mod reader_handle;
 mod reader_slot;
@@ -25,6 +21,3 @@ mod scan;
 mod session;
 mod session_handle;
 mod session_slot;
-mod table;
-mod table_handle;
-mod table_slot;

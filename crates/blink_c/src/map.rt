@@ -12,24 +12,16 @@ use crate::index_handle::IndexHandle;
 use crate::index_slot::IndexSlot;
 use crate::map_handle::MapHandle;
 use crate::map_slot::MapSlot;
-use crate::place::Place;
 use crate::session_slot::SessionSlot;
 use blink_grow::Room;
 use blink_owners::map_owner::MapOwner;
 use blink_owners::map_refusal::code_of;
 use blink_owners::refusal::{Code, DONE};
-use blink_owners::shared_map::MapState;
 use std::alloc::Global;
 
-/// Opens a map over the index, and stores where it lies. The map grows as it has to. Its number is 0, and its caller names it before a
-/// session joins it.
+/// Opens a map over the index. The map grows as it has to.
 #[unsafe(no_mangle)]
-pub extern "C" fn blink_map_open_unnamed(
-    alloc: Global,
-    index: &mut IndexHandle,
-    out: &mut MapSlot,
-    place: &mut Place,
-) -> Code
+pub extern "C" fn blink_map_open(alloc: Global, index: &mut IndexHandle, out: &mut MapSlot) -> Code
     requires { out.old.value ≡ None }
     ensures opened { result ≡ 0 → IsSome out.new.value × IfSome out.new.value
         (IsNewMap (map_of index.old.value) PLACES) }
@@ -42,7 +34,6 @@ pub extern "C" fn blink_map_open_unnamed(
 {
     match MapOwner::open(alloc, index.get()) {
         Ok(map) => {
-            give_place(&map.state, place);
             *out = MapSlot::of(map);
             DONE
         }
@@ -50,10 +41,10 @@ pub extern "C" fn blink_map_open_unnamed(
     }
 }
 
-/// Opens a map over the index as `blink_map_open_unnamed` does, with this room for its first changes, which is for so many sessions. If the
+/// Opens a map over the index as `blink_map_open` does, with this room for its first changes, which is for so many sessions. If the
 /// room is fixed, the map is never renewed, its changes are refused where it is full, and no more sessions join it.
 #[unsafe(no_mangle)]
-pub extern "C" fn blink_map_open_with_room_unnamed(
+pub extern "C" fn blink_map_open_with_room(
     alloc: Global,
     index: &mut IndexHandle,
     pages: u32,
@@ -61,7 +52,6 @@ pub extern "C" fn blink_map_open_with_room_unnamed(
     sessions: u32,
     fixed: bool,
     out: &mut MapSlot,
-    place: &mut Place,
 ) -> Code
     requires { out.old.value ≡ None }
     ensures opened { result ≡ 0 → IsSome out.new.value × IfSome out.new.value
@@ -81,28 +71,11 @@ pub extern "C" fn blink_map_open_with_room_unnamed(
     };
     match MapOwner::open_with_room(alloc, index.get(), room, fixed) {
         Ok(map) => {
-            give_place(&map.state, place);
             *out = MapSlot::of(map);
             DONE
         }
         Err(refusal) => refusal.code(),
     }
-}
-
-// Stores where an open map lies.
-fn give_place(state: &MapState, place: &mut Place) {
-    if let MapState::Open(shared) = state {
-        *place = Place::of(&**shared);
-    }
-}
-
-/// Names the map: gives it a number that no other open map has, by which sessions of two maps are told apart. Sessions that joined
-/// before have the number from before.
-#[unsafe(no_mangle)]
-pub extern "C" fn blink_map_name(map: &mut MapHandle, number: u64)
-    ensures named { map.new.value ≡ record map.old.value { number = number } }
-{
-    map.get().number = number;
 }
 
 /// Gives one more handle of the map, for another thread: calls with different handles may be made at the same time. The map closes by

@@ -20,7 +20,7 @@ impl Model for MapHandle {
     ghost also_owns = { λ h. handle_owns h.alloc h.at h.value };
 }
 
-// So another thread may use it: a keeper and passes are plain data, and an `Arc` counts by atomics.
+// So another thread may use it: a session is plain data, and an `Arc` counts by atomics.
 unsafe impl Send for MapHandle {}
 
 impl MapHandle {

@@ -5,7 +5,7 @@ ghost use Rattle.blink_batch.specs.declared.Op.TheVariants.{Delete, DeleteExact,
 ghost use Rattle.blink_map.specs.{IsUpdate};
 ghost use Rattle.blink_owners.specs.Codes.{TellsWhy};
 ghost use Rattle.blink_owners.specs.MapCodes.{code_of};
-ghost use Rattle.blink_owners.specs.Sessions.{EndsFrom, Finds, IsAdvanceRefusal, IsAway, IsOwnSession, IsPutRefusal, IsTakeRefusal, IsTellRefusal, KnowsSame, Puts, Scans, ScansBack, SeesMore, Takes, TellsOn, TellsStock, in_map};
+ghost use Rattle.blink_owners.specs.Sessions.{EndsFrom, Finds, IsAdvanceRefusal, IsAway, IsOwnSession, IsPutRefusal, IsTakeRefusal, KnowsSame, Puts, Scans, ScansBack, SeesMore, Takes, TellsStock, in_map};
 ghost use Rattle.blink_c.specs.Changing.{ChangesMap};
 
 use crate::session_handle::SessionHandle;
@@ -279,29 +279,6 @@ pub extern "C" fn blink_session_let_go(session: &mut SessionHandle)
     ensures goes_on { session.new.value.under_way ≡ session.old.value.under_way }
 {
     session.get().let_go();
-}
-
-/// Tells session `to` what session `from` has seen. Sessions of two maps are told apart by the numbers of these. It looks `tries` times for
-/// each of the two, at least once, while the map is renewed. A session that is held is let go for the call, and held again after it, unless
-/// a renewal has begun by then.
-#[unsafe(no_mangle)]
-pub extern "C" fn blink_session_tell(
-    from: &mut SessionHandle,
-    to: &mut SessionHandle,
-    tries: u32,
-) -> Code
-    requires its_own { IsOwnSession from.old.value }
-    requires others_own { IsOwnSession to.old.value }
-    requires numbered { from.old.value.number ≡ to.old.value.number
-        → in_map from.old.value ≡ in_map to.old.value }
-    ensures its_own { IsOwnSession from.new.value }
-    ensures others_own { IsOwnSession to.new.value }
-    ensures told { result ≡ 0
-        → TellsOn from.old.value from.new.value to.old.value to.new.value }
-    ensures refused { TellsWhy code_of
-        (IsTellRefusal from.old.value from.new.value to.old.value to.new.value) result }
-{
-    code_of(&from.get().tell(to.get(), tries))
 }
 
 /// Tells what the session has of page numbers and rows in the map that it is in just now. It looks `tries` times for the session, at least

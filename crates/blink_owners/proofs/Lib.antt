@@ -7,12 +7,9 @@ pub mod EntriesAreFew
 pub mod Overlays
 pub mod RunsShown
 pub mod RunsInParts
-pub mod PassesCross
-pub mod KeysOfPasses
 pub mod MapsCross
 pub mod SessionsStay
 pub mod PutsGoOn
 pub mod SnapshotsAreGiven
-pub mod DealFaults
 pub mod AppliedSoFar
 pub mod MapsEnd

@@ -29,7 +29,7 @@ state = enum_send (enum.shape State.the_type) ((heap.Arc-send SharedMap.the_row 
 
 pub owner_send : IsSend MapOwner.the_row
 owner_send = recorded_send (MapOwner.the_field).row _ _ (MapOwner.the_type).to_one
-    (struct_send (struct.shape MapOwner.the_type) (state, (search (sendable, crosses) depth 12, (search sendable, tt))))
+    (struct_send (struct.shape MapOwner.the_type) (state, (search (sendable, crosses) depth 12, tt)))
 
 -- an operation of a held session: what it was before is a ghost
 pending : IsSend Pending.the_field.row
@@ -49,11 +49,8 @@ session_owner_send = recorded_send (SessionOwner.the_field).row _ _ (SessionOwne
       (
         search sendable,
         (
-          search sendable,
-          (
-            search (sendable, crosses, session.the_field_send) depth 12,
-            (search (sendable, crosses, held.the_field_send) depth 12, (search (sendable, crosses, under_way) depth 12, tt)),
-          ),
+          search (sendable, crosses, session.the_field_send) depth 12,
+          (search (sendable, crosses, held.the_field_send) depth 12, (search (sendable, crosses, under_way) depth 12, tt)),
         ),
       ),
     ))

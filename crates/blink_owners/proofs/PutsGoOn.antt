@@ -95,7 +95,7 @@ module _ (old new : SessionOwner) (key pointer : ℕ) (given : RawAnswer) where
 pub seen_itself : (owner : SessionOwner) → IsAtHand owner → HasSeenMore owner owner
 seen_itself owner at_hand = record {
   at_hand = at_hand;
-  same = record { same_map = refl; same_number = refl; same_place = refl };
+  same = record { same_map = refl; same_place = refl };
   knows = continued_same (known_in owner) (known_in owner) refl;
 }
 
@@ -176,7 +176,7 @@ module _ (put : ℕ × ℕ) (old mid : SessionOwner) (op : Op) (refusal : MapRef
     record {
       pending = busy.pending;
       is = ap (is_putting put) busy.is;
-      same = record { same_map = busy.same.same_map; same_number = busy.same.same_number; same_place = same_place put mid.free mid.held mid.under_way ∙ busy.same.same_place };
+      same = record { same_map = busy.same.same_map; same_place = same_place put mid.free mid.held mid.under_way ∙ busy.same.same_place };
       knows = subst (λ (known : Known). IsContinued (known_in old) known) (sym (same_knowledge put mid.free mid.held mid.under_way)) busy.knows;
     },
   )

@@ -105,7 +105,7 @@ module _ (old : SessionOwner) (its : IsOwnSession old) where
 
     pub sees_free : IsSameBesideSeen before now → SeesMore old free_now
     sees_free same = record {
-      same = record { same_map = refl; same_number = refl; same_place = free_place same.same_slot };
+      same = record { same_map = refl; same_place = free_place same.same_slot };
       at_hand = record { was = free_idle; is = free_idle };
       knows = subst (λ (known : Known). IsContinued known (known_to now)) (sym was_free) (record { saw = same.saw; made = sym same.made });
     }
@@ -122,14 +122,14 @@ module _ (old : SessionOwner) (its : IsOwnSession old) where
             answer = answer;
             its_answer = refl;
             in_order = subst (λ (x : ℕ × Known). AnswersFrom (opening_of (in_map old)) op x.0 x.1 (known_to now) answer) (λ i. (sym (λ j. place_among (is j) old.held old.under_way) i, sym was_free i)) here;
-            same = record { same_map = refl; same_number = refl; same_place = free_place answered.same_slot };
+            same = record { same_map = refl; same_place = free_place answered.same_slot };
           };
         }
 
     pub away_free : IsSameSession before now → IsAway old free_now refused.Busy
     away_free same = record {
       stays = record {
-        same = record { same_map = refl; same_number = refl; same_place = free_place same.same_slot };
+        same = record { same_map = refl; same_place = free_place same.same_slot };
         knows = (λ i. record { seen = same.seen i; made = same.made i }) ∙ sym was_free;
       };
       why = inl (refl, record { was = free_idle; is = free_idle });
@@ -162,13 +162,13 @@ module _ (old : SessionOwner) (its : IsOwnSession old) where
         answer = answer;
         its_answer = refl;
         in_order = subst (λ (x : ℕ × Known × Known). AnswersFrom (opening_of (in_map old)) op x.0 x.1 x.2 answer) (λ i. (sym was_held_at i, sym was_held i, sym held_knows i)) answered.in_order;
-        same = record { same_map = refl; same_number = refl; same_place = held_place answered.same_place };
+        same = record { same_map = refl; same_place = held_place answered.same_place };
       };
     }
 
     pub sees_held : IsHeldOn before now → SeesMore old held_now
     sees_held on = record {
-      same = record { same_map = refl; same_number = refl; same_place = held_place on.same_place };
+      same = record { same_map = refl; same_place = held_place on.same_place };
       at_hand = record { was = held_idle; is = held_idle };
       knows = subst (λ (x : Known × Known). IsContinued x.0 x.1) (λ i. (sym was_held i, sym held_knows i)) on.knows;
     }
@@ -176,7 +176,7 @@ module _ (old : SessionOwner) (its : IsOwnSession old) where
   -- where neither is there, an operation is under way
   pub away_busy : old.free ≡ None → old.held ≡ None → IsAway old old refused.UnderWay
   away_busy not_free not_held = record {
-    stays = record { same = record { same_map = refl; same_number = refl; same_place = refl }; knows = refl };
+    stays = record { same = record { same_map = refl; same_place = refl }; knows = refl };
     why = inr (refl, busy old.under_way (sym (λ i. is_some (not_free i) || is_some (not_held i)) ∙ its.one), refl);
   }
 
@@ -206,19 +206,19 @@ own_again owner session empty its = record {
 -- ---- a session that is held for a call
 
 -- what a call has made of the held session is what the owner knows, once it is put back
-pub known_at_rest : (old mid new : SessionOwner) (held now : Held) → IsGripped old held → in_map mid ≡ in_map old → mid.number ≡ old.number → IsContinued (known_by held) (known_by now)
+pub known_at_rest : (old mid new : SessionOwner) (held now : Held) → IsGripped old held → in_map mid ≡ in_map old → IsContinued (known_by held) (known_by now)
     → place_of_held now ≡ place_of_held held → IsRested now mid new → SeesMore old new
-known_at_rest old mid new held now gripped same same_number on place rested = record {
+known_at_rest old mid new held now gripped same on place rested = record {
   at_hand = record { was = gripped.at_hand; is = rested.at_hand };
-  same = record { same_map = rested.same_map ∙ same; same_number = rested.same_number ∙ same_number; same_place = rested.same_place ∙ (place ∙ gripped.same_place) };
+  same = record { same_map = rested.same_map ∙ same; same_place = rested.same_place ∙ (place ∙ gripped.same_place) };
   knows = subst (λ (known : Known). IsContinued (known_in old) known) (sym rested.knows)
       (continued_through (known_in old) (known_by held) (known_by now) gripped.knows on);
 }
 
 -- an operation of a held session, of this place, has ended, and the session is put back
 pub ended_at_rest : (old mid new : SessionOwner) (op : Op) (held now : Held) (answer : Answer) (given : RawAnswer) (before : Known) → place_of_held held ≡ place_in old → IsContinued before (known_by held)
-    → in_map mid ≡ in_map old → mid.number ≡ old.number → IsAnsweredHeld (in_map old) op held now answer → IsRested now mid new → given ≡ raw_answer answer → HasAnswered op (place_in old) before old new given
-ended_at_rest old mid new op held now answer given before place knows same same_number answered rested is =
+    → in_map mid ≡ in_map old → IsAnsweredHeld (in_map old) op held now answer → IsRested now mid new → given ≡ raw_answer answer → HasAnswered op (place_in old) before old new given
+ended_at_rest old mid new op held now answer given before place knows same answered rested is =
     let order = answers_sooner (opening_of (in_map old)) op (place_of_held held) before (known_by held) (known_by now) answer knows answered.in_order in
     let here : AnswersFrom (opening_of (in_map old)) op (place_in old) before (known_by now) answer =
     subst (λ (place : ℕ). AnswersFrom (opening_of (in_map old)) op place before (known_by now) answer) place order in
@@ -227,11 +227,11 @@ ended_at_rest old mid new op held now answer given before place knows same same_
       answer = answer;
       its_answer = is;
       in_order = subst (λ (known : Known). AnswersFrom (opening_of (in_map old)) op (place_in old) before known answer) (sym rested.knows) here;
-      same = record { same_map = rested.same_map ∙ same; same_number = rested.same_number ∙ same_number; same_place = rested.same_place ∙ (answered.same_place.same_place ∙ place) };
+      same = record { same_map = rested.same_map ∙ same; same_place = rested.same_place ∙ (answered.same_place.same_place ∙ place) };
     }
 
 pub same_through : (old mid new : SessionOwner) → IsOfSame old mid → IsOfSame mid new → IsOfSame old new
-same_through old mid new one other = record { same_map = other.same_map ∙ one.same_map; same_number = other.same_number ∙ one.same_number; same_place = other.same_place ∙ one.same_place }
+same_through old mid new one other = record { same_map = other.same_map ∙ one.same_map; same_place = other.same_place ∙ one.same_place }
 
 pub sees_through : (old mid new : SessionOwner) → SeesMore old mid → SeesMore mid new → SeesMore old new
 sees_through old mid new one other = record {
@@ -243,7 +243,7 @@ sees_through old mid new one other = record {
 -- one that is at hand has seen what it has seen
 pub sees_itself : (owner : SessionOwner) → IsAtHand owner → SeesMore owner owner
 sees_itself owner at_hand = record {
-  same = record { same_map = refl; same_number = refl; same_place = refl };
+  same = record { same_map = refl; same_place = refl };
   at_hand = record { was = at_hand; is = at_hand };
   knows = continued_same (known_in owner) (known_in owner) refl;
 }

@@ -13,24 +13,16 @@ pub use Rattle.blink_owners.specs.Codes.{TellsNewFault, TellsWhy}
 -- what the look-ups give, and the caller's arrays after a scan or a dump, and what a scan tells
 pub use Rattle.blink_owners.specs.Found.{found_answer, pointer_or}
 pub use Rattle.blink_owners.specs.Filled.{overlaid, put_if_fits, told_of}
--- what a scan of a table or a map gives, and a snapshot
+-- what a scan of a map gives, and a snapshot
 pub use Rattle.blink_owners.specs.Reports.{HasReported, HasReportedBack, TellsTaken}
--- a table behind a handle: what the calls make of it, and why they are refused
-pub use Rattle.blink_owners.specs.Tables.{DealsTo, IsNewTable, IsOwnTable, IsReturnRefusal, TakesBack, TellsDealFault}
--- a pass behind a handle likewise
-pub use Rattle.blink_owners.specs.Passes.{Begins, Ends, Finds, Glances, Hands, IsAdvanceRefusal, IsBeginRefusal, IsFindRefusal, IsHandRefusal, IsOwn, IsTakeRefusal, IsTellRefusal, Scans, ScansBack, Takes, TellsHandFault, TellsOn}
 -- readers of an index, each behind a handle
 pub use Rattle.blink_owners.specs.Readers.{index_at, index_in}
--- ---- for proofs above
-pub use Rattle.blink_owners.specs.Tables.{table_in}
 -- ---- files that crates above name
-pub mod Passes
 -- a map and its sessions behind handles: what the calls make of them, and why they are refused
 pub mod Maps
 pub mod Sessions
 -- the codes of refusals
 pub mod Codes
-pub mod TableCodes
 pub mod MapCodes
 -- ---- files that no crate above names
 pub mod Raw
@@ -40,5 +32,4 @@ pub mod Edits
 pub mod Found
 pub mod Filled
 pub mod Reports
-pub mod Tables
 pub mod Readers

@@ -3,7 +3,7 @@ use Rattle.std.specs.Prelude.{ℕ}
 use Rattle.blink_grow.specs.declared.error.GrowError.{GrowError}
 use Rattle.blink_grow.specs.declared.error.GrowError.TheVariants as grow
 use Rattle.blink_owners.specs.declared.map_refusal.MapRefusal.{MapRefusal}
-use Rattle.blink_owners.specs.declared.map_refusal.MapRefusal.TheVariants.{OutOfMemory, TooLarge, Sessions, NoSession, Busy, Full, RowsBusy, Missing, Foreign, UnderWay, Idle, Closed}
+use Rattle.blink_owners.specs.declared.map_refusal.MapRefusal.TheVariants.{OutOfMemory, TooLarge, Sessions, NoSession, Busy, Full, RowsBusy, Missing, UnderWay, Idle, Closed}
 
 abbrev pub refusal_of : GrowError → MapRefusal
 refusal_of grow.OutOfMemory = OutOfMemory
@@ -21,7 +21,6 @@ code_of Busy = 109
 code_of Full = 105
 code_of RowsBusy = 107
 code_of Missing = 106
-code_of Foreign = 63
 code_of UnderWay = 90
 code_of Idle = 91
 code_of Closed = 108

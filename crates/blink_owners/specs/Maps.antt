@@ -1,5 +1,5 @@
 -- A map behind a handle: what the calls make of it, and why they are refused.
-use Rattle.std.specs.Prelude.{◌≡◌, ◌⊎◌, ℕ, Bool, List, All, IsTrue, Some, ⊤, if◌then◌else◌}
+use Rattle.std.specs.Prelude.{◌≡◌, ◌⊎◌, ◌≤◌, ℕ, Bool, List, All, IsTrue, Some, ⊤, length, if◌then◌else◌}
 use Rattle.std.specs.Arc.{arc_value}
 use Rattle.blink_batch.specs.declared.Entry.{Entry}
 use Rattle.blink_grow.specs.declared.error.GrowError.{GrowError}
@@ -37,11 +37,10 @@ IsOwnMap owner = IsStateOf (map_in owner) owner.state
 
 -- ---- opening
 
--- a map that was opened with these entries, and has so many places for sessions. It isn't named yet
+-- a map that was opened with these entries, and has so many places for sessions
 pub record IsNewMap (entries : List Entry) (places : ℕ) (owner : MapOwner) : Type 0 where
   pub opened : opening_of (map_in owner) ≡ entries
   pub its_places : places_of (map_in owner) ≡ places
-  pub unnamed : owner.number ≡ 0
 
 -- how many places a map has that is told of so many sessions: as many, if its room is fixed
 abbrev pub places_for : ℕ → Bool → ℕ
@@ -60,9 +59,8 @@ open_fault_of refusal = refused.OutOfMemory
 -- ---- one more handle
 
 -- the other handle is of the same map
-pub record IsOwnerOfSame (owner other : MapOwner) : Type 0 where
-  pub same_map : map_in other ≡ map_in owner
-  pub same_number : other.number ≡ owner.number
+abbrev pub IsOwnerOfSame : MapOwner → MapOwner → Type 0
+IsOwnerOfSame owner other = map_in other ≡ map_in owner
 
 abbrev pub IsShareFault : MapRefusal → Type 0
 IsShareFault refusal = (refusal ≡ refused.OutOfMemory) ⊎ (refusal ≡ refused.Closed)
@@ -81,7 +79,6 @@ pub record Joins (owner : MapOwner) (given : SessionOwner) : Type 0 where
   pub free : given.free ≡ Some session
   pub its_own : IsSessionOf (map_in owner) session
   pub one_map : in_map given ≡ map_in owner
-  pub one_number : given.number ≡ owner.number
 
 abbrev pub IsJoinFault : MapRefusal → Type 0
 IsJoinFault refusal = (refusal ≡ refused.OutOfMemory) ⊎ (refusal ≡ refused.NoSession)
@@ -98,10 +95,10 @@ abbrev pub IsRenewFault : MapState → MapRefusal → Type 0
 IsRenewFault held refusal =
     (refusal ≡ refused.OutOfMemory) ⊎ (refusal ≡ refused.TooLarge) ⊎ (refusal ≡ refused.Busy) ⊎ (refusal ≡ refused.Closed) ⊎ ((refusal ≡ refused.Full) × IsOpenFixed held)
 
--- the entries are the map's opening ones after one list of changes, which goes on from all that some sessions of the map had seen,
--- and has exactly the changes that were made at their places
+-- the entries are the map's opening ones after one list of changes, which goes on from all that the sessions of the map had seen, as many as
+-- it has places, and has exactly the changes that were made at their places
 abbrev pub IsClosedMap : GrowingMap → List Entry → Type 0
-IsClosedMap map entries = (sessions : List Session) × IsClosedWith map sessions entries
+IsClosedMap map entries = (sessions : List Session) × All (IsSessionOf map) sessions × (places_of map ≤ length sessions) × IsClosedWith map sessions entries
 
 -- why a map that nobody else shares isn't closed
 abbrev pub IsEndFault : MapRefusal → Type 0

@@ -93,7 +93,6 @@ pub record StaysAtHand (old new : SessionOwner) : Type 0 where
 -- the session is that of the same place, of the same map
 pub record IsOfSame (old new : SessionOwner) : Type 0 where
   pub same_map : in_map new ≡ in_map old
-  pub same_number : new.number ≡ old.number
   pub same_place : place_in new ≡ place_in old
 
 -- no operation is under way. It may have seen more, and has made no change
@@ -116,7 +115,6 @@ pub record IsGripped (old : SessionOwner) (held : Held) : Type 0 where
 -- what was there is taken out
 pub record IsTakenOut (old new : SessionOwner) : Type 0 where
   pub same_map : new.shared ≡ old.shared
-  pub same_number : new.number ≡ old.number
   pub same_keeps : new.keeps ≡ old.keeps
   pub empty : IsEmpty new
 
@@ -124,7 +122,6 @@ pub record IsTakenOut (old new : SessionOwner) : Type 0 where
 pub record IsRested (held : Held) (old new : SessionOwner) : Type 0 where
   pub at_hand : IsAtHand new
   pub same_map : in_map new ≡ in_map old
-  pub same_number : new.number ≡ old.number
   pub same_place : place_in new ≡ place_of_held held
   pub knows : known_in new ≡ known_by held
 
@@ -173,28 +170,6 @@ pub record TellsStock (old new : SessionOwner) (given : RawStock) : Type 0 where
   pub stock : given ≡ raw_stock (stock_of_held held)
   pub knows : known_in new ≡ known_by held
   pub sees : SeesMore old new
-
--- ---- what another session is told
-
--- the session of the same map has seen now all that this one had
-pub record TellsOn (from from_new to to_new : SessionOwner) : Type 0 where
-  pub one_map : from.number ≡ to.number
-  pub told : IsPrefix (known_in from).seen (known_in to_new).seen
-  pub sees : SeesMore from from_new
-  pub other_sees : SeesMore to to_new
-
--- neither has changed
-pub record AreUnchanged (from from_new to to_new : SessionOwner) : Type 0 where
-  pub same : from_new ≡ from
-  pub other_same : to_new ≡ to
-
--- why it isn't told: the sessions are of two maps; or of one, and an operation of either is under way; or the map was renewed, or about to
--- be, at each look
-abbrev pub IsTellRefusal : SessionOwner → SessionOwner → SessionOwner → SessionOwner → MapRefusal → Type 0
-IsTellRefusal from from_new to to_new refusal =
-    ((refusal ≡ refused.Foreign) × (from.number ≢ to.number) × AreUnchanged from from_new to to_new)
-    ⊎ ((refusal ≡ refused.UnderWay) × (from.number ≡ to.number) × (IsUnderWay from ⊎ IsUnderWay to) × AreUnchanged from from_new to to_new)
-    ⊎ ((refusal ≡ refused.Busy) × (from.number ≡ to.number) × SeesMore from from_new × SeesMore to to_new)
 
 -- ---- operations that change the map
 

@@ -1,4 +1,4 @@
-//! What stands behind the library for C and Rust: owners of a table, a pass, a map, a session or a reader, the calls on them and on an
+//! What stands behind the library for C and Rust: owners of a map, a session or a reader, the calls on them and on an
 //! index, and entries, operations, answers and refusals as numbers. The exports of `blink_c` call it.
 #![tactic(auto)]
 
@@ -7,12 +7,9 @@ pub mod batch;
 pub mod make;
 pub mod map_owner;
 pub mod map_refusal;
-pub mod pass_owner;
 pub mod raw;
 pub mod reader_owner;
 pub mod reads;
 pub mod refusal;
 pub mod session_owner;
 pub mod shared_map;
-pub mod table_owner;
-pub mod table_refusal;

@@ -29,8 +29,6 @@ pub struct MapOwner {
     pub state: MapState,
     /// The map as it was opened.
     pub map: Snapshot<GrowingMap>,
-    /// Its number, by which its sessions are told from those of other maps. A new map isn't named, and has 0.
-    pub number: u64,
 }
 
 impl MapOwner {
@@ -92,7 +90,6 @@ impl MapOwner {
     ) -> Result<Box<MapOwner>, AllocError>
         requires its_own { All (IsSessionOf map) sessions.items }
         ensures map { IfOk result (λ owner. map_in owner.value ≡ map) }
-        ensures unnamed { IfOk result (λ owner. owner.value.number ≡ 0) }
         ensures its_own { IfOk result (λ owner. IsOwnMap owner.value) }
     {
         let opened = Snapshot::of(&map);
@@ -103,7 +100,6 @@ impl MapOwner {
         let owner = MapOwner {
             state: MapState::Open(shared),
             map: opened,
-            number: 0,
         };
         match Box::new(alloc, owner) {
             Ok(owner) => Ok(owner),
@@ -129,7 +125,6 @@ impl MapOwner {
         let owner = MapOwner {
             state: MapState::Open(shared),
             map,
-            number: self.number,
         };
         match Box::new(alloc, owner) {
             Ok(other) => Ok(other),
@@ -148,7 +143,7 @@ impl MapOwner {
         let MapState::Open(shared) = &self.state else {
             return Err(MapRefusal::NoSession);
         };
-        let Ok(mut owner) = empty_owner(alloc, shared, self.number) else {
+        let Ok(mut owner) = empty_owner(alloc, shared) else {
             return Err(MapRefusal::OutOfMemory);
         };
         match shared.places.join() {
@@ -254,6 +249,14 @@ impl MapOwner {
         ensures refused { IfErr result IsEndFault }
         ensures stays { OnErr result (CanClose self.new.state) }
     {
+        if sessions.len() < map.places() {
+            self.state = MapState::Unclosed(Unclosed {
+                map,
+                sessions,
+                refusal: GrowError::Busy,
+            });
+            return Err(MapRefusal::Busy);
+        }
         let Ok(mut room) = room_for_index(alloc) else {
             self.state = MapState::Unclosed(Unclosed {
                 map,
@@ -300,19 +303,13 @@ fn room_for_index(alloc: Global) -> Result<Box<Index>, AllocError> {
 }
 
 // A box for a session, with one more owner of the map.
-fn empty_owner(
-    alloc: Global,
-    shared: &Arc<SharedMap>,
-    number: u64,
-) -> Result<Box<SessionOwner>, AllocError>
+fn empty_owner(alloc: Global, shared: &Arc<SharedMap>) -> Result<Box<SessionOwner>, AllocError>
     ensures map { IfOk result (λ session. in_map session.value ≡ (arc_value shared.now).map) }
-    ensures number { IfOk result (λ session. session.value.number ≡ number) }
     ensures empty { IfOk result (λ session. IsEmpty session.value) }
 {
     let shared = Arc::try_clone(shared)?;
     let owner = SessionOwner {
         shared,
-        number,
         keeps: false,
         free: None,
         held: None,

@@ -25,8 +25,6 @@ pub enum MapRefusal {
     RowsBusy,
     /// The handle of a session, or another one of the map, isn't freed.
     Missing,
-    /// The sessions are of two maps.
-    Foreign,
     /// The session has an operation under way.
     UnderWay,
     /// The session has no operation under way.
@@ -62,7 +60,6 @@ impl MapRefusal {
             MapRefusal::Full => 105,
             MapRefusal::RowsBusy => 107,
             MapRefusal::Missing => 106,
-            MapRefusal::Foreign => 63,
             MapRefusal::UnderWay => 90,
             MapRefusal::Idle => 91,
             MapRefusal::Closed => 108,

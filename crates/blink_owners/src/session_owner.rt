@@ -4,7 +4,7 @@ ghost use mathlib.Core.List.{IsPrefix};
 ghost use Rattle.blink_batch.specs.{FitsWords};
 ghost use Rattle.blink_grow.specs.{IsHeldOf, IsPendingOf, IsRefusalOf, IsUpdate};
 ghost use Rattle.blink_owners.specs.Raw.{raw_answer};
-ghost use Rattle.blink_owners.specs.Sessions.{Answers, EndsFrom, Finds, HasAnswered, HasPut, HasStepped, IsAdvanceRefusal, IsAtHand, IsAway, IsChangeRefusal, IsEmpty, IsGripped, IsNotMade, IsNotPut, IsOfPut, IsOwnSession, IsPutRefusal, IsRested, IsStepRefusal, IsTakeRefusal, IsTakenOut, IsTellRefusal, IsUntouched, KnowsSame, Puts, SeesMore, Scans, ScansBack, Takes, TellsOn, TellsStock, in_map, is_putting, known_in, place_in, put_in, tells_put};
+ghost use Rattle.blink_owners.specs.Sessions.{Answers, EndsFrom, Finds, HasAnswered, HasPut, HasStepped, IsAdvanceRefusal, IsAtHand, IsAway, IsChangeRefusal, IsEmpty, IsGripped, IsNotMade, IsNotPut, IsOfPut, IsOwnSession, IsPutRefusal, IsRested, IsStepRefusal, IsTakeRefusal, IsTakenOut, IsUntouched, KnowsSame, Puts, SeesMore, Scans, ScansBack, Takes, TellsStock, in_map, is_putting, known_in, place_in, put_in, tells_put};
 
 use crate::map_refusal::MapRefusal;
 use crate::raw::{ABSENT, INSERTED, REMOVED, REPLACED, RawAnswer, RawScanned, RawStock, RawTaken};
@@ -33,8 +33,6 @@ pub struct UnderWay {
 pub struct SessionOwner {
     /// The map, with the places of its sessions.
     pub shared: Arc<SharedMap>,
-    /// The map's number, as it was when the session joined.
-    pub number: u64,
     /// Whether the session stays held between calls.
     pub keeps: bool,
     /// The session, unless it is held, or an operation of it is under way.
@@ -564,59 +562,6 @@ impl SessionOwner {
     {
         if self.keeps {
             let _outcome = self.hold(tries);
-        }
-    }
-
-    /// Tells the other session what this one has seen. A session that is held is let go for the call, and held again after it. Where a
-    /// renewal has begun by then, it stays free until its next change, or until the next `hold`.
-    ///
-    /// The call is refused with `Foreign`, if the sessions are of two maps; then with `UnderWay`, if an operation of either is under way;
-    /// and nothing changes. It is refused with `Busy`, if the map was renewed, or was about to be, at each look. Then nothing is told.
-    pub fn tell(&mut self, to: &mut SessionOwner, tries: u32) -> Result<(), MapRefusal>
-        requires its_own { IsOwnSession self.old }
-        requires others_own { IsOwnSession to.old }
-        requires numbered { self.old.number ≡ to.old.number → in_map self.old ≡ in_map to.old }
-        ensures its_own { IsOwnSession self.new }
-        ensures others_own { IsOwnSession to.new }
-        ensures told { OnOk result (TellsOn self.old self.new to.old to.new) }
-        ensures refused { IfErr result (IsTellRefusal self.old self.new to.old to.new) }
-    {
-        if self.number != to.number {
-            return Err(MapRefusal::Foreign);
-        }
-        if self.under_way.is_some() || to.under_way.is_some() {
-            return Err(MapRefusal::UnderWay);
-        }
-        self.loosen();
-        to.loosen();
-        let outcome = self.tell_free(to, tries);
-        self.hold_again(tries);
-        to.hold_again(tries);
-        outcome
-    }
-
-    // The same of two sessions of one map that are free.
-    fn tell_free(&mut self, to: &mut SessionOwner, tries: u32) -> Result<(), MapRefusal>
-        requires its_own { IsOwnSession self.old }
-        requires others_own { IsOwnSession to.old }
-        requires one_map { in_map self.old ≡ in_map to.old }
-        requires free { IsSome self.old.free }
-        requires other_free { IsSome to.old.free }
-        ensures its_own { IsOwnSession self.new }
-        ensures others_own { IsOwnSession to.new }
-        ensures sees { SeesMore self.old self.new }
-        ensures other_sees { SeesMore to.old to.new }
-        ensures told { OnOk result (IsPrefix (known_in self.old).seen (known_in to.new).seen) }
-        ensures refused { IfErr result (λ refusal. refusal ≡ MapRefusal.Busy) }
-    {
-        match (&mut self.free, &mut to.free) {
-            (Some(from), Some(session)) => {
-                match self.shared.map.try_tell(from, session, tries) {
-                    Ok(()) => Ok(()),
-                    Err(_) => Err(MapRefusal::Busy),
-                }
-            }
-            _ => unreachable!(),
         }
     }
 

@@ -16,20 +16,8 @@ pub enum Error {
     OutOfMemory,
     /// The key at this place of the entries, counted from 0, isn't above the one before. It is the first such place.
     NotAscending(usize),
-    /// A pass has this key that wasn't given back, or it stands twice in the list.
-    Taken(u64),
-    /// The table has fewer insertions or deletions left to deal.
-    NoAllowance,
-    /// The key isn't one of the pass's.
-    NotYours,
-    /// This key isn't one of the pass's that is to hand it over, or stands twice in the list.
-    KeyNotYours(u64),
-    /// The pass has no insertion, or no deletion, left.
-    Spent,
-    /// A pass of the table is still held somewhere, or was dropped; or a session of the map hasn't been dropped.
+    /// A session of the map hasn't been dropped.
     Missing,
-    /// The pass is of another table, or the session of another map.
-    Foreign,
     /// The room of a map is for 1 to 256 sessions.
     BadSessions,
     /// Each place for a session is taken.
@@ -51,14 +39,10 @@ impl Error {
     // Codes that the types of this crate exclude don't come here.
     pub(crate) fn of(code: Code) -> Error {
         match code {
-            32 | 57 | 101 => Error::TooLarge,
+            32 | 101 => Error::TooLarge,
             40 => Error::BadFan,
             41 => Error::OutOfMemory,
-            52 => Error::NoAllowance,
-            54 => Error::NotYours,
-            55 => Error::Spent,
-            56 | 106 => Error::Missing,
-            63 => Error::Foreign,
+            106 => Error::Missing,
             102 => Error::BadSessions,
             103 => Error::NoSession,
             105 => Error::Full,
@@ -84,13 +68,7 @@ impl fmt::Display for Error {
             Error::TooLarge => f.write_str("more pages might be needed than the 1,048,575 that there are: take fewer entries, fewer insertions or a smaller room"),
             Error::OutOfMemory => f.write_str("memory was refused"),
             Error::NotAscending(place) => write!(f, "the key of entry {place}, counted from 0, is not above the one before: sort the entries, and keep one of equal keys"),
-            Error::Taken(key) => write!(f, "another pass has key {key}, or it stands twice in the list: give that pass back first"),
-            Error::NoAllowance => f.write_str("the table has too few insertions or deletions left to deal: ask for fewer, or open it with more"),
-            Error::NotYours => f.write_str("the key is not one of this pass's: its own pass has to be asked, or a glance"),
-            Error::KeyNotYours(key) => write!(f, "key {key} is not one of the pass's that is to hand it over, or stands twice in the list"),
-            Error::Spent => f.write_str("the pass has no insertion, or no deletion, left: give it back, and deal one with more"),
-            Error::Missing => f.write_str("a pass was not given back, and has to be; or a session of the map was not dropped, and has to be"),
-            Error::Foreign => f.write_str("the pass is of another table, or the session of another map"),
+            Error::Missing => f.write_str("a session of the map was not dropped, and has to be"),
             Error::BadSessions => f.write_str("the room of a map is for 1 to 256 sessions"),
             Error::NoSession => f.write_str("each place for a session is taken: drop a session, or open the map with more places"),
             Error::Full => f.write_str("too few page numbers or rows are left: close the map, and open one with more room over the index, or one that grows"),

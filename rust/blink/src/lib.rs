@@ -1,4 +1,4 @@
-//! A proved B-link tree index, and a table and a map that threads share without a global lock.
+//! A proved B-link tree index, and a map that threads share without a global lock.
 //!
 //! What happens behind these types is proved: `libblink` is built from Rattle code, whose every function is proved to meet its
 //! contract (crates/blink_c of the repository has those of the calls). This crate is a thin layer of Rust over it, which isn't
@@ -25,11 +25,9 @@
 //! - [`Reader`] reads an index that other threads read at the same time, each by a reader of its own.
 //! - [`Map`] shares the entries of an index among threads. Any of them changes any key, each by a [`Session`]. It has no room to be told: it
 //!   grows. Who wants no pause of changes opens it with a [fixed room](Map::open_fixed).
-//! - [`Table`] shares them too, and each key has an owner: a [`Pass`] has keys of its own, inserts, deletes and replaces these, and
-//!   looks at all.
 //! - [`Guards`] tell when an object may be freed whose pointer was taken out of a map.
 //! - [`keys`] makes keys of signed numbers, of floats and of pairs, in their order.
-//! - [`Pending`] is an operation of a pass that has begun and waits for nobody; [`Unfinished`] is one of a session.
+//! - [`Unfinished`] is an operation of a session that has begun and waits for nobody.
 //!
 //! A `BTreeMap`'s calls have these names here. `insert` differs most: it leaves a present key as it is.
 //!
@@ -53,8 +51,8 @@
 //! A call that takes a range of keys takes each that `BTreeMap::range` takes, and panics where that one does: where the range's start is
 //! above its end, or one key is excluded from both sides.
 //!
-//! What a thread wrote before it stored a pointer, by a pass or a session, is seen by whoever gets this pointer from another one, by a
-//! look-up, a glance, a range, a snapshot or a change (tested). So a pointer may be the address of a record, which isn't changed from then on
+//! What a thread wrote before it stored a pointer by a session is seen by whoever gets this pointer from another session, by a
+//! look-up, a range, a snapshot or a change (tested). So a pointer may be the address of a record, which isn't changed from then on
 //! but by what orders memory itself.
 #![warn(missing_docs)]
 
@@ -74,7 +72,6 @@ mod reader;
 mod session;
 mod steps;
 mod sys;
-mod table;
 mod waiting;
 
 pub use error::Error;
@@ -87,4 +84,3 @@ pub use read::Range;
 pub use reader::Reader;
 pub use session::{Holding, Reserve, Session};
 pub use steps::{Begun, Unfinished};
-pub use table::{Pass, Pending, Table};

@@ -4,14 +4,13 @@ use crate::dropped::Dropped;
 use crate::range::Places;
 use crate::session::Session;
 use crate::sys::{self, Handle};
-use crate::waiting::TRIES;
+use crate::waiting::{Pauses, TRIES};
 use crate::{Error, Index};
 use std::fmt;
 use std::sync::{Arc, Mutex, MutexGuard, PoisonError};
-use std::thread;
 
-// How often a close yields for operations that were dropped. Each ends once no session is in a call that has its page.
-const CLOSE_YIELDS: u32 = 1_000;
+// How often a close lets other threads run for operations that were dropped. Each ends once no session is in a call that has its page.
+const CLOSE_PAUSES: u32 = 1_000;
 
 /// What a map has beside its entries, for changes and sessions to come. [`Room::for_insertions`] and [`Map::with_capacity`] work it out; the
 /// numbers are for a program that knows its keys.
@@ -174,7 +173,7 @@ impl Map {
     /// ```
     pub fn open(index: &Index) -> Result<Map, Error> {
         // SAFETY: the index's handle is full, and this thread alone uses it; `out` is empty.
-        Map::named(|out, place| unsafe { sys::blink_map_open_unnamed(index.handle(), out, place) })
+        Map::opened(|out| unsafe { sys::blink_map_open(index.handle(), out) })
     }
 
     /// Opens an empty map, whose pages have 32 entries at most, with [a room](Room::for_insertions) for so many insertions of absent keys by
@@ -244,17 +243,13 @@ impl Map {
     fn open_in(index: &Index, room: Room, fixed: bool) -> Result<Map, Error> {
         let Room { pages, rows, sessions } = room;
         // SAFETY: as in `open`.
-        Map::named(|out, place| unsafe {
-            sys::blink_map_open_with_room_unnamed(index.handle(), pages, rows, sessions, fixed, out, place)
-        })
+        Map::opened(|out| unsafe { sys::blink_map_open_with_room(index.handle(), pages, rows, sessions, fixed, out) })
     }
 
-    // Opens a map by this call, which stores where it lies, and names it by that place.
-    fn named(open: impl FnOnce(*mut Handle, *mut u64) -> sys::Code) -> Result<Map, Error> {
-        let (mut handle, mut place) = (Handle::EMPTY, 0);
-        Error::check(open(&mut handle, &mut place))?;
-        // SAFETY: the handle is full, and no other map has this place while this one or a session of it lives.
-        unsafe { sys::blink_map_name(&mut handle, place) };
+    // Opens a map by this call.
+    fn opened(open: impl FnOnce(*mut Handle) -> sys::Code) -> Result<Map, Error> {
+        let mut handle = Handle::EMPTY;
+        Error::check(open(&mut handle))?;
         Ok(Map { handle: Mutex::new(handle), dropped: Arc::default() })
     }
 
@@ -352,11 +347,12 @@ impl Map {
     /// # Ok::<(), Error>(())
     /// ```
     pub fn close(self) -> Result<Index, Unclosed> {
-        for _ in 0..CLOSE_YIELDS {
+        let mut pauses = Pauses::default();
+        for _ in 0..CLOSE_PAUSES {
             if self.dropped.advance(TRIES) {
                 break;
             }
-            thread::yield_now();
+            pauses.pause();
         }
         let index = Index::filled(|out| {
             // SAFETY: the handle is full, and locked; `out` is empty.

@@ -47,7 +47,7 @@ pub(crate) unsafe fn take_out(handle: *mut Handle, call: ScanCall, (lo, hi): (u6
     let mut scanned = RawScanned { filled: 0, more: 0, next: 0 };
     // SAFETY: as the caller says; the array has that many elements.
     let code = unsafe { call(handle, lo, hi, places.as_mut_ptr(), places.len(), &mut scanned) };
-    // No operation is under way, and a pass wasn't given back, by the types; nothing else is refused.
+    // No operation is under way, by the types; nothing else is refused.
     assert_eq!(code, 0);
     (scanned.filled as usize, (scanned.more == 1).then_some(scanned.next))
 }
@@ -61,7 +61,7 @@ pub(crate) unsafe fn end_of(handle: *mut Handle, call: ScanCall, range: &impl Ra
     (filled == 1).then(|| place[0].into())
 }
 
-// The places that a session or a pass has for the parts of its ranges, for those from the front and for those from the end. They are there for
+// The places that a session has for the parts of its ranges, for those from the front and for those from the end. They are there for
 // the first part, and stay for the next range.
 pub(crate) struct Places {
     front: Vec<RawEntry>,
@@ -151,7 +151,7 @@ pub(crate) fn snapshot(handle: &mut Handle, call: SnapshotCall, range: &impl Ran
     }
 }
 
-/// The entries of a table or a map whose keys are in a range, in ascending order, while other threads change them; and from its other end
+/// The entries of a map whose keys are in a range, in ascending order, while other threads change them; and from its other end
 /// in descending order.
 ///
 /// It reads the tree's leaves from the left, each at one time: what it says of a key is what the changes up to some time leave of
@@ -160,7 +160,7 @@ pub(crate) fn snapshot(handle: &mut Handle, call: SnapshotCall, range: &impl Ran
 /// ends gets each key from one of them alone: no entry comes twice, and none is left out that was there throughout.
 ///
 /// From each end it takes the entries out in parts: 16 first, which takes no memory, then twice as many each time, up to 256, as long as
-/// memory for them is given. The session or the pass keeps that for its next range, 4 KB at most for each end. A part is read when it is asked
+/// memory for them is given. The session keeps that for its next range, 4 KB at most for each end. A part is read when it is asked
 /// for, so what a loop doesn't come to is read in vain, up to as many entries as it came to: [`LiveRange::limit`] reads none of these. Backwards
 /// each leaf takes a descent of its own.
 #[must_use = "a range is read as it is iterated over"]

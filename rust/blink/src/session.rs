@@ -388,26 +388,6 @@ impl Session {
         Ok(put.pointer())
     }
 
-    /// Tells the other session what this one has seen: then the other has seen all that this one has. It waits while the map is renewed. It is
-    /// refused with [`Error::Foreign`] for a session of another map.
-    ///
-    /// ```
-    /// use blink::{Error, Map};
-    ///
-    /// let map = Map::new(32)?;
-    /// let (mut writer, mut reader) = (map.session()?, map.session()?);
-    /// writer.insert(5, 50)?;
-    /// writer.tell(&mut reader)?;
-    /// assert_eq!(reader.get(5), Some(50));
-    /// let other = Map::new(32)?;
-    /// assert_eq!(writer.tell(&mut other.session()?), Err(Error::Foreign));
-    /// # Ok::<(), blink::Error>(())
-    /// ```
-    pub fn tell(&mut self, other: &mut Session) -> Result<(), Error> {
-        // SAFETY: both handles are full, and borrowed for writing, so they are two.
-        Error::check(renewed(|| unsafe { sys::blink_session_tell(&mut self.handle, &mut other.handle, TRIES) }))
-    }
-
     /// Holds the session: the calls on it wait for no renewal, until the [`Holding`] is dropped. Meanwhile the map is neither renewed nor
     /// closed, so hold it for a few calls, and not while the thread waits for another one. It waits while the map is renewed. A change that
     /// finds the map full lets the session go for the renewal, and holds it again.

@@ -85,10 +85,10 @@ pub(crate) struct RawTaken {
     pub(crate) there: u64,
 }
 
-/// A snapshot by a pass or a session.
+/// A snapshot by a session.
 pub(crate) type SnapshotCall = unsafe extern "C" fn(*mut Handle, u64, u64, u32, *mut RawEntry, usize, *mut RawTaken) -> Code;
 
-/// A scan by a pass or a session, in either direction.
+/// A scan by a session, in either direction.
 pub(crate) type ScanCall =
     unsafe extern "C" fn(*mut Handle, u64, u64, *mut RawEntry, usize, *mut RawScanned) -> Code;
 
@@ -224,81 +224,17 @@ extern "C" {
     pub(crate) fn blink_reader_dump(reader: *mut Handle, text: *mut u8, places: usize, bytes: *mut usize) -> Code;
     pub(crate) fn blink_reader_free(reader: Handle);
 
-    pub(crate) fn blink_table_open_unnamed(
-        index: *mut Handle,
-        inserts: u32,
-        deletes: u32,
-        out: *mut Handle,
-        place: *mut u64,
-    ) -> Code;
-    pub(crate) fn blink_table_name(table: *mut Handle, number: u64);
-    pub(crate) fn blink_table_deal(
-        table: *mut Handle,
-        keys: *const u64,
-        count: usize,
-        inserts: u32,
-        deletes: u32,
-        out: *mut Handle,
-        taken: *mut u64,
-    ) -> Code;
-    pub(crate) fn blink_table_return(table: *mut Handle, pass: *mut Handle) -> Code;
-    pub(crate) fn blink_table_close(table: Handle, out: *mut Handle) -> Code;
-    pub(crate) fn blink_table_free(table: Handle);
 
-    pub(crate) fn blink_pass_find(pass: *mut Handle, key: u64, answer: *mut RawAnswer) -> Code;
-    pub(crate) fn blink_pass_glance(pass: *mut Handle, key: u64, answer: *mut RawAnswer) -> Code;
-    pub(crate) fn blink_pass_scan(
-        pass: *mut Handle,
-        lo: u64,
-        hi: u64,
-        entries: *mut RawEntry,
-        places: usize,
-        scanned: *mut RawScanned,
-    ) -> Code;
-    pub(crate) fn blink_pass_scan_back(
-        pass: *mut Handle,
-        lo: u64,
-        hi: u64,
-        entries: *mut RawEntry,
-        places: usize,
-        scanned: *mut RawScanned,
-    ) -> Code;
-    pub(crate) fn blink_pass_snapshot(
-        pass: *mut Handle,
-        lo: u64,
-        hi: u64,
-        tries: u32,
-        entries: *mut RawEntry,
-        places: usize,
-        taken: *mut RawTaken,
-    ) -> Code;
-    pub(crate) fn blink_pass_tell(from: *mut Handle, to: *mut Handle) -> Code;
-    pub(crate) fn blink_pass_transfer(
-        from: *mut Handle,
-        to: *mut Handle,
-        keys: *const u64,
-        count: usize,
-        bad_key: *mut u64,
-    ) -> Code;
-    pub(crate) fn blink_pass_begin_insert(pass: *mut Handle, key: u64, pointer: u64) -> Code;
-    pub(crate) fn blink_pass_begin_delete(pass: *mut Handle, key: u64) -> Code;
-    pub(crate) fn blink_pass_begin_replace(pass: *mut Handle, key: u64, pointer: u64) -> Code;
-    pub(crate) fn blink_pass_begin_exchange(pass: *mut Handle, key: u64, expected: u64, pointer: u64) -> Code;
-    pub(crate) fn blink_pass_begin_delete_exact(pass: *mut Handle, key: u64, expected: u64) -> Code;
-    pub(crate) fn blink_pass_advance(pass: *mut Handle, tries: u32, answer: *mut RawAnswer) -> Code;
-    pub(crate) fn blink_pass_free(pass: Handle);
 
-    pub(crate) fn blink_map_open_unnamed(index: *mut Handle, out: *mut Handle, place: *mut u64) -> Code;
-    pub(crate) fn blink_map_open_with_room_unnamed(
+    pub(crate) fn blink_map_open(index: *mut Handle, out: *mut Handle) -> Code;
+    pub(crate) fn blink_map_open_with_room(
         index: *mut Handle,
         pages: u32,
         rows: u32,
         sessions: u32,
         fixed: bool,
         out: *mut Handle,
-        place: *mut u64,
     ) -> Code;
-    pub(crate) fn blink_map_name(map: *mut Handle, number: u64);
     pub(crate) fn blink_map_share_alone(map: *mut Handle, out: *mut Handle) -> Code;
     pub(crate) fn blink_map_join_alone(map: *mut Handle, out: *mut Handle) -> Code;
     pub(crate) fn blink_map_room_alone(map: *mut Handle, looks: u32, rows: *mut u64, pages: *mut u64) -> Code;
@@ -372,7 +308,6 @@ extern "C" {
         answer: *mut RawAnswer,
     ) -> Code;
     pub(crate) fn blink_session_advance(session: *mut Handle, tries: u32, answer: *mut RawAnswer) -> Code;
-    pub(crate) fn blink_session_tell(from: *mut Handle, to: *mut Handle, tries: u32) -> Code;
     pub(crate) fn blink_session_hold(session: *mut Handle, tries: u32) -> Code;
     pub(crate) fn blink_session_let_go(session: *mut Handle);
     pub(crate) fn blink_session_reserve(session: *mut Handle, tries: u32, reserve: *mut crate::Reserve) -> Code;

@@ -1,6 +1,6 @@
-//! What a session and a pass read from either end, beside a `BTreeMap` by operations that look like chance.
+//! What a session reads from either end, beside a `BTreeMap` by operations that look like chance.
 
-use blink::{Index, Map, Pass, Room, Session, Table};
+use blink::{Index, Map, Room, Session};
 use std::collections::BTreeMap;
 use std::ops::RangeInclusive;
 
@@ -116,31 +116,4 @@ fn a_limit_gives_as_many_entries_as_a_take() {
     let mut limit = session.range(..).limit(3);
     assert_eq!((limit.size_hint(), limit.next(), limit.size_hint()), ((0, Some(3)), Some((0, 0)), (2, Some(2))));
     assert_eq!((limit.next_back(), limit.next(), limit.next()), (Some((999, 1998)), Some((1, 2)), None));
-}
-
-fn pass_changes(pass: &mut Pass, plain: &mut Plain, draw: &mut Draw, turn: u64) {
-    let key = draw.below(KEYS);
-    if draw.below(2) == 0 {
-        if pass.insert(key, turn).unwrap().changed() {
-            plain.insert(key, turn);
-        }
-    } else {
-        assert_eq!(pass.remove(key).unwrap().pointer(), plain.remove(&key));
-    }
-}
-
-#[test]
-fn a_pass_reads_from_either_end_as_a_btree_map() {
-    let index: Index = Index::from_sorted(4, (0..KEYS).map(|key| (key, key))).unwrap();
-    let mut table = Table::open(&index, 2_000, 2_000).unwrap();
-    let mut pass = table.deal(&(0..KEYS).collect::<Vec<_>>(), 2_000, 2_000).unwrap();
-    let (mut plain, mut draw): (Plain, Draw) = ((0..KEYS).map(|key| (key, key)).collect(), Draw(88_172_645_463_325_252));
-    for turn in 0..2_000 {
-        pass_changes(&mut pass, &mut plain, &mut draw, turn);
-        let range = draw.range(KEYS);
-        both_ends(pass.range(range.clone()), &plain, range.clone(), usize::MAX, &mut draw);
-        let most = draw.below(KEYS / 2) as usize;
-        both_ends(pass.range(range.clone()).limit(most), &plain, range, most, &mut draw);
-    }
-    assert!(pass.range(..).rev().eq(plain.iter().rev().map(pair)));
 }

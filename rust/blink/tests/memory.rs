@@ -1,6 +1,6 @@
 //! What the crate's calls do where the memory for their own lists is refused: they are refused, or go on with less; the process goes on.
 
-use blink::{Answer, Error, Index, Map, Op, Room, Table};
+use blink::{Answer, Error, Index, Map, Op, Room};
 use std::alloc::{GlobalAlloc, Layout, System};
 use std::cell::Cell;
 use std::ptr;
@@ -77,14 +77,10 @@ fn a_range_takes_no_memory_where_one_before_was_as_long() {
 }
 
 #[test]
-fn a_session_and_a_pass_are_refused_and_others_get_their_places() {
+fn a_session_is_refused_and_another_gets_its_place() {
     let map = Map::open_fixed(&thousand(), Room { pages: 0, rows: 0, sessions: 1 }).unwrap();
     assert_eq!(with_most(200, || map.session()).unwrap_err(), Error::OutOfMemory);
     assert_eq!(map.session().unwrap().get(7), Some(70));
-    let mut table = Table::open(&thousand(), 0, 1).unwrap();
-    assert_eq!(with_most(200, || table.deal(&[7], 0, 1)).unwrap_err(), Error::OutOfMemory);
-    let mut pass = table.deal(&[7], 0, 1).unwrap();
-    assert_eq!(pass.remove(7), Ok(Answer::Removed(70)));
 }
 
 #[test]

@@ -67,25 +67,6 @@ fn a_map_tells_what_its_pool_has_left() {
     assert_eq!(map.room(), Ok(Left { pages: 136, rows: 200 }));
 }
 
-// One tells another what it has seen, through a renewal, and while one of the two is held.
-#[test]
-fn a_told_session_has_seen_what_the_other_has() {
-    let map = Map::new(4).unwrap();
-    let (mut one, mut other) = (map.session().unwrap(), map.session().unwrap());
-    one.insert(1, 10).unwrap();
-    map.renew(1).unwrap();
-    assert_eq!(one.tell(&mut other), Ok(()));
-    assert_eq!(other.get(1), Some(10));
-    let mut held = other.hold();
-    assert_eq!(one.tell(&mut held), Ok(()));
-    assert_eq!(held.tell(&mut one), Ok(()));
-    // it is held still
-    assert_eq!(map.renew(1), Err(Error::Renewing));
-    drop(held);
-    assert_eq!(map.renew(1), Ok(()));
-    assert_eq!(one.tell(&mut Map::new(4).unwrap().session().unwrap()), Err(Error::Foreign));
-}
-
 // Its leaf has 4 entries, and there are rows for one split: the fifth insertion makes it.
 const ONE_SPLIT: Room = Room { pages: 200, rows: 44, sessions: 1 };
 

@@ -415,17 +415,6 @@ fn rows_come_back_while_threads_change_a_map() {
 }
 
 #[test]
-fn a_session_of_another_map_is_refused() {
-    let index = Index::new(4).unwrap();
-    let (one, other) = (map_over(&index, 22, 44, 2), map_over(&index, 22, 44, 2));
-    let (mut ones, mut others) = (one.session().unwrap(), other.session().unwrap());
-    ones.insert(1, 10).unwrap();
-    assert_eq!(ones.tell(&mut others), Err(Error::Foreign));
-    assert_eq!(ones.tell(&mut one.session().unwrap()), Ok(()));
-    assert_eq!(others.get(1), None);
-}
-
-#[test]
 fn a_place_is_taken_again() {
     let map = map_over(&Index::new(4).unwrap(), 22, 44, 2);
     let one = map.session().unwrap();

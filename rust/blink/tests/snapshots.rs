@@ -1,6 +1,6 @@
 //! Snapshots while others change the tree. Each changes one key at a time, so what every state between two changes has, each snapshot has.
 
-use blink::{Answer, Index, Map, Pass, Room, Session, Table};
+use blink::{Answer, Index, Map, Room, Session};
 use std::sync::atomic::{AtomicU64, Ordering};
 use std::thread;
 
@@ -62,29 +62,6 @@ fn snapshots_of_sessions_have_no_gap() {
                 assert!(taken > 0);
             });
         }
-    });
-}
-
-#[test]
-fn snapshots_of_passes_have_no_gap() {
-    const KEYS: u64 = 400;
-    let mut table = Table::open(&Index::new(8).unwrap(), (WRITERS * KEYS) as u32, 0).unwrap();
-    let at_work = AtomicU64::new(WRITERS);
-    let passes: Vec<Pass> = (0..WRITERS).map(|writer| table.deal(&keys_of(writer, KEYS).collect::<Vec<_>>(), KEYS as u32, 0).unwrap()).collect();
-    let mut reader = table.deal(&[], 0, 0).unwrap();
-    let write = |mut pass: Pass, writer: u64| {
-        for key in keys_of(writer, KEYS) {
-            assert_eq!(pass.insert(key, key + 7), Ok(Answer::Inserted));
-        }
-        at_work.fetch_sub(1, Ordering::SeqCst);
-    };
-    thread::scope(|scope| {
-        for (writer, pass) in (0..).zip(passes) {
-            let write = &write;
-            scope.spawn(move || write(pass, writer));
-        }
-        let taken = watch(|| reader.snapshot(.., 20).unwrap(), &at_work, WRITERS * KEYS);
-        assert!(taken > 0);
     });
 }
 

@@ -4,7 +4,7 @@
 
 mod stepped;
 
-use blink::{Answer, Error, Index, Map, Pass, Room, Session, Table};
+use blink::{Answer, Error, Index, Map, Room, Session};
 use std::ops::RangeInclusive;
 use stepped::by_instruction;
 
@@ -58,7 +58,7 @@ impl Entries {
         index
     }
 
-    // A table or a map closes with the tree's own pages.
+    // A map closes with the tree's own pages.
     fn are_those_of(&self, closed: &Index, full: &Full) {
         assert!(closed.iter().eq(self.after.iter().copied()));
         assert_eq!(closed.pages(), full.pages.1);
@@ -76,66 +76,36 @@ impl Entries {
     }
 }
 
-// What sessions and passes read.
-trait Reads {
-    fn scan(&mut self, range: RangeInclusive<u64>, most: usize) -> Vec<(u64, u64)>;
-    fn snapshot(&mut self, range: RangeInclusive<u64>) -> Option<Vec<(u64, u64)>>;
-    fn find(&mut self, key: u64) -> Option<u64>;
-}
-
-impl Reads for Session {
-    fn scan(&mut self, range: RangeInclusive<u64>, most: usize) -> Vec<(u64, u64)> {
-        self.range(range).take(most).collect()
-    }
-
-    fn snapshot(&mut self, range: RangeInclusive<u64>) -> Option<Vec<(u64, u64)>> {
-        Session::snapshot(self, range, 1).unwrap()
-    }
-
-    fn find(&mut self, key: u64) -> Option<u64> {
-        self.get(key)
-    }
-}
-
-impl Reads for Pass {
-    fn scan(&mut self, range: RangeInclusive<u64>, most: usize) -> Vec<(u64, u64)> {
-        self.range(range).take(most).collect()
-    }
-
-    fn snapshot(&mut self, range: RangeInclusive<u64>) -> Option<Vec<(u64, u64)>> {
-        Pass::snapshot(self, range, 1).unwrap()
-    }
-
-    fn find(&mut self, key: u64) -> Option<u64> {
-        self.glance(key)
-    }
+// The first entries of a range, as many as are asked for at most.
+fn scan(session: &mut Session, range: RangeInclusive<u64>, most: usize) -> Vec<(u64, u64)> {
+    session.range(range).take(most).collect()
 }
 
 // Scans the whole range and the keys around the new one, and says whether the new entry is there, as each of these four does.
-fn scans(reads: &mut impl Reads, entries: &Entries) -> Option<bool> {
+fn scans(reads: &mut Session, entries: &Entries) -> Option<bool> {
     let all = 0..=u64::MAX;
-    let shown = entries.show(&all, usize::MAX, &reads.scan(all.clone(), usize::MAX));
+    let shown = entries.show(&all, usize::MAX, &scan(reads, all.clone(), usize::MAX));
     let around = entries.new.saturating_sub(25)..=entries.new + 25;
-    assert_eq!(entries.show(&around, usize::MAX, &reads.scan(around.clone(), usize::MAX)), shown);
+    assert_eq!(entries.show(&around, usize::MAX, &scan(reads, around.clone(), usize::MAX)), shown);
     shown
 }
 
 // Turns pages of three entries from keys before the new one, from it and from behind it.
-fn turns_pages(reads: &mut impl Reads, entries: &Entries) -> Option<bool> {
+fn turns_pages(reads: &mut Session, entries: &Entries) -> Option<bool> {
     let new = entries.new;
     let mut shown = None;
     for from in [0, new.saturating_sub(21), new - 1, new, new + 1, new + 14] {
         let range = from..=u64::MAX;
-        let page = entries.show(&range, 3, &reads.scan(range.clone(), 3));
+        let page = entries.show(&range, 3, &scan(reads, range.clone(), 3));
         assert!(shown.is_none() || page.is_none() || shown == page, "from {from}: {page:?}");
         shown = shown.or(page);
     }
     shown
 }
 
-fn takes_snapshots(reads: &mut impl Reads, entries: &Entries) -> Option<bool> {
+fn takes_snapshots(reads: &mut Session, entries: &Entries) -> Option<bool> {
     let [all, around] = [0..=u64::MAX, entries.new.saturating_sub(25)..=entries.new + 25].map(|range| {
-        let snapshot = reads.snapshot(range.clone()).expect("nothing changes meanwhile");
+        let snapshot = reads.snapshot(range.clone(), 1).unwrap().expect("nothing changes meanwhile");
         let snapshot: Vec<(u64, u64)> = snapshot.into_iter().collect();
         entries.show(&range, usize::MAX, &snapshot)
     });
@@ -143,17 +113,17 @@ fn takes_snapshots(reads: &mut impl Reads, entries: &Entries) -> Option<bool> {
     all
 }
 
-fn finds(reads: &mut impl Reads, entries: &Entries) -> Option<bool> {
+fn finds(reads: &mut Session, entries: &Entries) -> Option<bool> {
     for &(key, pointer) in &entries.before {
-        assert_eq!(reads.find(key), Some(pointer));
+        assert_eq!(reads.get(key), Some(pointer));
     }
-    let found = reads.find(entries.new);
+    let found = reads.get(entries.new);
     assert!(found.is_none() || found == Some(entries.new + 7), "{found:?}");
     Some(found.is_some())
 }
 
 // Four readers read between two instructions, and all of them see the new entry or none does. Returns whether they do.
-fn read<R: Reads>(readers: &mut [R; 4], entries: &Entries) -> bool {
+fn read(readers: &mut [Session; 4], entries: &Entries) -> bool {
     let [scanning, paging, snapping, finding] = readers;
     let shown = scans(scanning, entries);
     assert_eq!(turns_pages(paging, entries), shown);
@@ -163,7 +133,7 @@ fn read<R: Reads>(readers: &mut [R; 4], entries: &Entries) -> bool {
 }
 
 // Makes the insertion, with four readers between any two of its instructions. The new entry is there from some instruction on.
-fn inserts<R: Reads>(insert: impl FnOnce() -> Result<Answer, Error>, readers: &mut [R; 4], entries: &Entries) {
+fn inserts(insert: impl FnOnce() -> Result<Answer, Error>, readers: &mut [Session; 4], entries: &Entries) {
     let (mut before, mut after) = (0, 0);
     let answer = by_instruction(insert, || {
         if read(readers, entries) {
@@ -189,21 +159,10 @@ fn session_inserts(full: &Full, new: u64) {
     entries.are_those_of(&map.close().unwrap(), full);
 }
 
-fn pass_inserts(full: &Full, new: u64) {
-    let entries = Entries::of(full, new);
-    let mut table = Table::open(&entries.index(full), 1, 0).unwrap();
-    let mut writer = table.deal(&[new], 1, 0).unwrap();
-    let mut readers = [(); 4].map(|()| table.deal(&[], 0, 0).unwrap());
-    inserts(|| writer.insert(new, new + 7), &mut readers, &entries);
-    let passes = readers.into_iter().chain([writer]);
-    entries.are_those_of(&table.close(passes).unwrap(), full);
-}
-
 // Into the first leaf, one in the middle, and the last.
 fn insert_everywhere(full: &Full) {
     for new in [5, 10 * (full.keys / 2) + 5, 10 * full.keys + 5] {
         session_inserts(full, new);
-        pass_inserts(full, new);
     }
 }
 

@@ -189,7 +189,7 @@ impl Caller {
         }
     }
 
-    // Where a search is refused, each other read is, and stores nothing. So is telling another session.
+    // Where a search is refused, each other read is, and stores nothing.
     fn reads_are_refused(&mut self) {
         let mut entries = [RawEntry::NONE; 4];
         let mut scanned = RawScanned { filled: 5, more: 6, next: 7 };
@@ -199,12 +199,9 @@ impl Caller {
             // SAFETY: the handle is full and this caller's own; the array has four places.
             assert_eq!(unsafe { scan(&mut self.session, 0, u64::MAX, 1, into, 4, &mut scanned) }, RENEWING);
         }
-        // SAFETY: as before; both handles are full and this caller's own.
-        let codes = unsafe {
-            let read = blink_session_snapshot(&mut self.session, 0, u64::MAX, 1, into, 4, &mut taken);
-            (read, blink_session_tell(&mut self.session, &mut self.other, 1))
-        };
-        assert_eq!((codes, entries.map(<(u64, u64)>::from)), ((RENEWING, RENEWING), [(0, 0); 4]));
+        // SAFETY: as before.
+        let code = unsafe { blink_session_snapshot(&mut self.session, 0, u64::MAX, 1, into, 4, &mut taken) };
+        assert_eq!((code, entries.map(<(u64, u64)>::from)), (RENEWING, [(0, 0); 4]));
         assert_eq!((scanned.filled, scanned.more, scanned.next, taken.taken, taken.there), (5, 6, 7, 5, 6));
     }
 
@@ -228,8 +225,7 @@ fn calls_beside_a_renewal(sessions: u32) -> Caller {
             let mut answer = RawAnswer::NONE;
             assert_eq!(blink_index_insert(&mut index, key, pointer, &mut answer), DONE);
         }
-        let mut place = 0;
-        let mut map = filled(|out| blink_map_open_unnamed(&mut index, out, &mut place));
+        let mut map = filled(|out| blink_map_open(&mut index, out));
         let mut caller = Caller::joining(&mut map);
         let idle: Vec<_> = (2..sessions).map(|_| filled(|out| blink_map_join_alone(&mut map, out))).collect();
         let mut instructions = 0u32;
@@ -314,8 +310,7 @@ impl Shared {
                 let mut answer = RawAnswer::NONE;
                 assert_eq!(blink_index_insert(&mut index, key, pointer, &mut answer), DONE);
             }
-            let mut place = 0;
-            let mut map = filled(|out| blink_map_open_unnamed(&mut index, out, &mut place));
+            let mut map = filled(|out| blink_map_open(&mut index, out));
             let renewing = filled(|out| blink_map_share_alone(&mut map, out));
             let changing = filled(|out| blink_map_join_alone(&mut map, out));
             let looking = filled(|out| blink_map_join_alone(&mut map, out));

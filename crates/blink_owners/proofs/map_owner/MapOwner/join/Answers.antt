@@ -17,5 +17,4 @@ returns-in-Some-clause-joined c =
       free = refl;
       its_own = subst (λ (map : GrowingMap). IsSessionOf map c.in-Some.session) (c.deref.result.now.its_places ∙ (ap (λ (s : SharedMap). s.map) c.deref.ensures ∙ its)) c.in-Some.ensures.joined;
       one_map = ap (λ (owner : SessionOwner). in_map owner) in_box ∙ (c.in-Ok.ensures.map ∙ its);
-      one_number = ap (λ (owner : SessionOwner). owner.number) in_box ∙ c.in-Ok.ensures.number;
     }

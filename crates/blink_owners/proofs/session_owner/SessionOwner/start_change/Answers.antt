@@ -34,7 +34,7 @@ returns-in-Ok-start-clause-answered c =
     let gripped = c.in-Ok.ensures.gripped in
     record {
       was = gripped.at_hand;
-      ended = ended_at_rest old c.grip.new.self c.rest.new.self c.args.op held c.in-Ok-start.held c.in-Ok-start.given c.of.result (known_in old) gripped.same_place gripped.knows same c.in-Ok.ensures.taken.same_number answered c.rest.ensures.rested c.of.ensures;
+      ended = ended_at_rest old c.grip.new.self c.rest.new.self c.args.op held c.in-Ok-start.held c.in-Ok-start.given c.of.result (known_in old) gripped.same_place gripped.knows same answered c.rest.ensures.rested c.of.ensures;
     }
 
 pub returns-in-Err-Waits-clause-refused : goal.returns-in-Err-Waits-clause-refused
@@ -53,7 +53,6 @@ returns-in-Err-Waits-clause-refused c =
         same_op = begun.same_op;
         same = record {
           same_map = map_taken c.in-Ok.ensures.taken;
-          same_number = c.in-Ok.ensures.taken.same_number;
           same_place = (λ i. place_among (gone.not_free i) (gone.not_held i) (Some doing)) ∙ (ap place_of_held begun.same_held ∙ gripped.same_place);
         };
         knows = subst (λ (known : Known). IsContinued (known_in old) known) (sym (λ i. known_of (gone.not_free i) (gone.not_held i) (Some doing)))
@@ -78,7 +77,6 @@ returns-after-lacks_room_in_all-clause-refused c =
       at_hand = record { was = gripped.at_hand; is = ap is_some c.in-Ok.ensures.taken.empty.no_operation };
       same = record {
         same_map = map_taken c.in-Ok.ensures.taken;
-        same_number = c.in-Ok.ensures.taken.same_number;
         same_place = released.same_place.same_place ∙ (on.same_place.same_place ∙ gripped.same_place);
       };
       knows = subst (λ (known : Known). IsContinued (known_in old) known) (sym released.knows)

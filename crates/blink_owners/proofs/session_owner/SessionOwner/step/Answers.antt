@@ -20,7 +20,7 @@ returns-in-Ok-clause-ended c =
     let answered = subst (λ (map : GrowingMap). IsAnsweredHeld map (op_of doing.pending) held c.in-Ok.held c.in-Ok.given) (ap (λ (s : SharedMap). s.map) c.deref.ensures) c.in-Ok.ensures.answered in
     subst (λ (under_way : Option UnderWay). HasStepped under_way old c.rest.new.self c.of.result) is
     (ended_at_rest old mid c.rest.new.self (op_of doing.pending) held c.in-Ok.held c.in-Ok.given c.of.result (known_in old) (sym (place_from old doing its (sym is)))
-    (continued_same (known_in old) (known_by held) (sym (knows_from old doing its (sym is)))) refl refl answered c.rest.ensures.rested c.of.ensures)
+    (continued_same (known_in old) (known_by held) (sym (knows_from old doing its (sym is)))) refl answered c.rest.ensures.rested c.of.ensures)
 
 pub returns-in-Err-clause-refused : goal.returns-in-Err-clause-refused
 returns-in-Err-clause-refused c =
@@ -41,7 +41,6 @@ returns-in-Err-clause-refused c =
         same = record {
           same = record {
             same_map = refl;
-            same_number = refl;
             same_place = (λ i. place_among (gone.0 i) (gone.1 i) (Some now)) ∙ (ap place_of_held on.same_held ∙ sym (place_from old before its (sym is)));
           };
           knows = (λ i. known_of (gone.0 i) (gone.1 i) (Some now)) ∙ (ap known_by on.same_held ∙ sym (knows_from old before its (sym is)));

@@ -20,6 +20,6 @@ returns-clause-told c =
       its_own = gripped.its_own;
       stock = c.of.ensures ∙ ap raw_stock c.stock.ensures;
       knows = rested.knows;
-      sees = known_at_rest c.args.self.now c.grip.new.self c.rest.new.self held held gripped.gripped (map_taken gripped.taken) gripped.taken.same_number
+      sees = known_at_rest c.args.self.now c.grip.new.self c.rest.new.self held held gripped.gripped (map_taken gripped.taken)
           (continued_same (known_by held) (known_by held) refl) refl rested;
     }
