@@ -218,6 +218,21 @@ grep -rnoE --include='*.antt' --include='*.rt' 'Rattle\.(blink|index|show)_[a-z_
     awk -F: '{ split($1, at, "/"); split($3, word, "."); if (word[2] != at[2] && word[4] != "Offered" && $3 !~ /\.The(Laws|SendSync)(\.|$)/)
         print $1 ":" $2 ": names " $3 ", which stands in another crate: name it by Offered.antt" }' >>"$work/found"
 
+# What changes a map: among the owners of handles these three functions call it, and these two take sessions that rest. So no call that reads,
+# opens, joins, renews, closes or frees changes a key of its own accord, which no contract says of keys that the call doesn't name.
+awk '
+    FNR == 1 { name = "" }
+    { sub(/[/][/].*/, "") }
+    match($0, /(^|[^a-z_])fn [a-z_]+/) { name = substr($0, RSTART, RLENGTH); sub(/.*fn /, "", name) }
+    /[a-z_)]\.(try_change|try_change_held|start|advance)\(|GrowingMap::(try_change|try_change_held|start|advance)\(/ {
+        if ($0 !~ /(self|owner|get\(\))\.(try_change|advance)\(/ && name !~ /^(change_in_place|start_change|step)$/)
+            print FILENAME ":" FNR ": " name " changes a map: only change_in_place, start_change and step do"
+    }
+    /\.(join|join_all|take_session)\(|Places::(join|join_all|take_session)\(/ {
+        if (name !~ /^(join|gather|blink_map_join|blink_map_join_alone|blink_reader_join)$/)
+            print FILENAME ":" FNR ": " name " takes a session that rests: only join and gather do"
+    }' crates/blink_owners/src/*.rt crates/blink_c/src/*.rt >>"$work/found"
+
 # Rooms: C, Rust and Python count the same for a session, page numbers for a draw and for an insertion's 22.
 drawn=$(sed -n 's/^pub(crate) const PAGE_CHUNK: u64 = \([0-9]*\);/\1/p' crates/blink_map/src/waiting.rt)
 for it in include/blink.h rust/blink/src/map.rs python/blink.py; do
