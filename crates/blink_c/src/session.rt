@@ -305,5 +305,5 @@ pub extern "C" fn blink_session_reserve(
 pub extern "C" fn blink_session_free(alloc: Global, session: SessionHandle)
     requires its_own { IsOwnSession session.value }
 {
-    Box::into_inner(session.into_box()).free(alloc, FREE_TRIES);
+    let _rests = Box::into_inner(session.into_box()).free(alloc, FREE_TRIES);
 }

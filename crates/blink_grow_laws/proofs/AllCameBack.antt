@@ -9,6 +9,7 @@ use Rattle.std.proofs.lemmas.List.Folds.{Any-from_list_any, list_any-from_Any}
 use Rattle.std.proofs.lemmas.Map.Made.{IsDistinct-from_AllPairs}
 use Rattle.std.proofs.lemmas.Map.Steps.{length-le_from_distinct_below}
 use Rattle.blink_batch.specs.declared.Entry.{Entry}
+use Rattle.blink_live.specs.declared.view.Change.{Change}
 use Rattle.blink_grow.specs.declared.growing.GrowingMap.{GrowingMap}
 use Rattle.blink_grow.specs.declared.growing.Session.{Session}
 use Rattle.blink_grow.specs.{IsClosedWith, IsSessionOf, place_of, places_of}
@@ -73,11 +74,16 @@ has_session places place sessions inside width apart all = by (list_any test ses
 place_inside : (its : GrowingMap) (session : Session) → IsSessionOf its session → place_of session < places_of its
 place_inside its session is = let same : session.seat.table_id.slots ≡ places_of its = (let table = is.same_table in cc) in let inside = session.in_range in omega (arith, same, inside)
 
+-- so each change was made at the place of one of the sessions
+pub all_theirs : (its : GrowingMap) (sessions : List Session) (entries : List Entry) → All (IsSessionOf its) sessions → length sessions ≡ places_of its → (closed : IsClosedWith its sessions entries)
+    → All (λ (change : Change). Any (λ (session : Session). place_of session ≡ change.author) sessions) closed.final
+all_theirs its sessions entries are width closed k d inside =
+    has_session (places_of its) (get_or closed.final k d).author sessions (closed.is_list.authors k d inside) width closed.is_list.apart (λ n e within. place_inside its (get_or sessions n e) (are n e within))
+
 pub only_theirs : (its : GrowingMap) (sessions : List Session) (entries : List Entry) → All (IsSessionOf its) sessions → length sessions ≡ places_of its → IsClosedWith its sessions entries → AreOnlyTheirs its sessions entries
 only_theirs its sessions entries are width closed = record {
   final = closed.final;
-  theirs = λ k d inside.
-      has_session (places_of its) (get_or closed.final k d).author sessions (closed.is_list.authors k d inside) width closed.is_list.apart (λ n e within. place_inside its (get_or sessions n e) (are n e within));
+  theirs = all_theirs its sessions entries are width closed;
   made = closed.is_list.made;
   kept = closed.kept;
 }

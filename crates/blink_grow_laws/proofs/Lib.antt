@@ -1,8 +1,12 @@
 mod NobodyElse
 mod AllCameBack
 mod OneIsFirst
+mod OnlyTwo
+mod OnlyOne
 mod OnlyTwoInsert
 mod OnlyTwoRaise
 mod RaisesAdd
 mod SessionsRaise
 mod TriesToRaise
+mod HeldFor
+mod FoundLater

@@ -7,6 +7,7 @@ pub use Rattle.blink_grow_laws.specs.Racing.{OneIsInserted}
 -- a counter that sessions raise
 pub use Rattle.blink_grow_laws.specs.Counting.{HasRaised, IsRaisedTo}
 -- ---- files that no crate above names
+pub mod Calls
 pub mod Whole
 pub mod Racing
 pub mod Counting

@@ -6,13 +6,14 @@ ghost use Rattle.blink_grow.specs.{IsSameBesideSeen, IsSessionOf};
 ghost use Rattle.blink_grow_laws.specs.Counting.{HasRaised, IsRaiseTried, IsRaisedTo};
 
 use crate::back::push;
+use crate::calls::{TRIES, change, find};
 use blink_batch::{Answer, Op};
 use blink_grow::{GrowError, GrowingMap, Session};
 use blink_index::Index;
 use std::alloc::Global;
 use std::sync::Wait;
 use std::thread;
-use std::thread::{Threads, join_mut};
+use std::thread::{Threads, join};
 
 /// Why a counter wasn't raised.
 #[derive(Clone, Copy, Debug, PartialEq, Eq)]
@@ -26,7 +27,8 @@ pub enum NotRaised {
 }
 
 /// Opens a growing map over an index, lets two of its sessions raise a key's pointer, each in a thread of its own and as often as it's
-/// told, and closes the map. In the closed index the key's pointer is the one before and as much as both were told that they raised it.
+/// told, and closes the map. One of them renews the map beside the other before it raises. In the closed index the key's pointer is the one
+/// before and as much as both were told that they raised it.
 pub fn count_by_two<R: Threads + Wait + Sync>(
     rt: &R,
     alloc: Global,
@@ -39,13 +41,13 @@ pub fn count_by_two<R: Threads + Wait + Sync>(
         → IfOk result (λ done. pointer_of (map_of done.2) key ≡ Some (first + done.0 + done.1)) }
 {
     let (map, mut sessions) = GrowingMap::open(alloc, index, places)?;
-    let Some(mut one) = sessions.pop() else {
+    let Some(one) = sessions.pop() else {
         return Err(GrowError::Sessions);
     };
-    let Some(mut other) = sessions.pop() else {
+    let Some(other) = sessions.pop() else {
         return Err(GrowError::Sessions);
     };
-    let (by_one, by_other) = side_by_side(rt, alloc, &map, &mut one, &mut other, key, times);
+    let ((one, by_one), (other, by_other)) = both_raise(rt, alloc, &map, one, other, key, times);
     push(&mut sessions, other)?;
     push(&mut sessions, one)?;
     match map.close(alloc, sessions) {
@@ -59,17 +61,20 @@ pub fn raise<R: Wait>(
     rt: &R,
     alloc: Global,
     map: &GrowingMap,
-    session: &mut Session,
+    session: Session,
     key: u64,
-) -> Result<u64, NotRaised>
-    requires its_own { IsSessionOf map.now session.old }
-    ensures raised { IfOk result (IsRaisedTo map.now key session.old session.new) }
-    ensures unchanged { OnErr result (IsSameBesideSeen session.old session.new) }
+) -> (Session, Result<u64, NotRaised>)
+    requires its_own { IsSessionOf map.now session }
+    ensures raised { IfOk result.1 (IsRaisedTo map.now key session result.0) }
+    ensures unchanged { OnErr result.1 (IsSameBesideSeen session result.0) }
 {
+    let mut session = session;
     for _ in rt.forever() {
-        if let Some(raised) = try_raise(rt, alloc, map, session, key) {
-            return raised;
+        let (then, raised) = try_raise(rt, alloc, map, session, key);
+        if let Some(raised) = raised {
+            return (then, raised);
         }
+        session = then;
         thread::yield_now();
     }
     unreachable!()
@@ -80,17 +85,18 @@ fn try_raise<R: Wait>(
     rt: &R,
     alloc: Global,
     map: &GrowingMap,
-    session: &mut Session,
+    session: Session,
     key: u64,
-) -> Option<Result<u64, NotRaised>>
-    requires its_own { IsSessionOf map.now session.old }
-    ensures { IsRaiseTried map.now key session.old session.new result }
+) -> (Session, Option<Result<u64, NotRaised>>)
+    requires its_own { IsSessionOf map.now session }
+    ensures { IsRaiseTried map.now key session result.0 result.1 }
 {
-    let Some(there) = map.find(rt, session, key) else {
-        return Some(Err(NotRaised::Absent));
+    let mut session = session;
+    let Some(there) = find(rt, map, &mut session, key) else {
+        return (session, Some(Err(NotRaised::Absent)));
     };
     if there == u64::MAX {
-        return Some(Err(NotRaised::Greatest));
+        return (session, Some(Err(NotRaised::Greatest)));
     }
     raise_from(rt, alloc, map, session, key, there)
 }
@@ -100,20 +106,21 @@ fn raise_from<R: Wait>(
     rt: &R,
     alloc: Global,
     map: &GrowingMap,
-    session: &mut Session,
+    session: Session,
     key: u64,
     there: u64,
-) -> Option<Result<u64, NotRaised>>
-    requires its_own { IsSessionOf map.now session.old }
+) -> (Session, Option<Result<u64, NotRaised>>)
+    requires its_own { IsSessionOf map.now session }
     requires below { there < u64.MAX }
-    ensures { IsRaiseTried map.now key session.old session.new result }
+    ensures { IsRaiseTried map.now key session result.0 result.1 }
 {
-    match map.change(rt, alloc, session, Op::Exchange(key, there, there + 1)) {
+    let (session, outcome) = change(rt, alloc, map, session, Op::Exchange(key, there, there + 1));
+    match outcome {
         Ok(answer) => match answer {
-            Answer::Replaced(_) => Some(Ok(there + 1)),
-            _ => None,
+            Answer::Replaced(_) => (session, Some(Ok(there + 1))),
+            _ => (session, None),
         },
-        Err(refusal) => Some(Err(NotRaised::Refused(refusal))),
+        Err(refusal) => (session, Some(Err(NotRaised::Refused(refusal)))),
     }
 }
 
@@ -122,40 +129,59 @@ pub fn raise_times<R: Wait>(
     rt: &R,
     alloc: Global,
     map: &GrowingMap,
-    session: &mut Session,
+    session: Session,
     key: u64,
     times: u64,
-) -> u64
-    requires its_own { IsSessionOf map.now session.old }
-    ensures { HasRaised map.now key result session.old session.new }
+) -> (Session, u64)
+    requires its_own { IsSessionOf map.now session }
+    ensures { HasRaised map.now key result.1 session result.0 }
 {
+    let mut session = session;
     for done in 0..times {
-        match raise(rt, alloc, map, session, key) {
+        let (then, raised) = raise(rt, alloc, map, session, key);
+        session = then;
+        match raised {
             Ok(_) => {}
-            Err(_) => return done,
+            Err(_) => return (session, done),
         }
     }
-    times
+    (session, times)
 }
 
-// The one session raises in a thread of its own, and the other in this one.
-fn side_by_side<R: Threads + Wait + Sync>(
+// The same, and the map is renewed before. Nothing rests on it whether it was.
+fn renew_and_raise<R: Wait>(
     rt: &R,
     alloc: Global,
     map: &GrowingMap,
-    one: &mut Session,
-    other: &mut Session,
+    session: Session,
+    key: u64,
+    times: u64,
+) -> (Session, u64)
+    requires its_own { IsSessionOf map.now session }
+    ensures { HasRaised map.now key result.1 session result.0 }
+{
+    let _outcome = map.try_renew_by(alloc, &session, None, TRIES);
+    raise_times(rt, alloc, map, session, key, times)
+}
+
+// The one session raises in a thread of its own, and the other, which renews the map first, in this one. Each comes back with how often it did.
+fn both_raise<R: Threads + Wait + Sync>(
+    rt: &R,
+    alloc: Global,
+    map: &GrowingMap,
+    one: Session,
+    other: Session,
     key: u64,
     times: (u64, u64),
-) -> (u64, u64)
-    requires ones { IsSessionOf map.now one.old }
-    requires others { IsSessionOf map.now other.old }
-    ensures ones { HasRaised map.now key result.0 one.old one.new }
-    ensures others { HasRaised map.now key result.1 other.old other.new }
+) -> ((Session, u64), (Session, u64))
+    requires ones { IsSessionOf map.now one }
+    requires others { IsSessionOf map.now other }
+    ensures ones { HasRaised map.now key result.0.1 one result.0.0 }
+    ensures others { HasRaised map.now key result.1.1 other result.1.0 }
 {
-    join_mut(
+    join(
         rt,
-        &mut || raise_times(rt, alloc, map, one, key, times.0),
-        &mut || raise_times(rt, alloc, map, other, key, times.1),
+        || raise_times(rt, alloc, map, one, key, times.0),
+        || renew_and_raise(rt, alloc, map, other, key, times.1),
     )
 }

@@ -3,8 +3,10 @@
 #![tactic(auto)]
 
 mod back;
+pub mod calls;
 pub mod counter;
 pub mod race;
+pub mod shown;
 #[cfg(test)]
 mod tests;
 pub mod whole;

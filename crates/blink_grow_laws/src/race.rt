@@ -7,12 +7,13 @@ ghost use Rattle.blink_grow.specs.{IsAnswered, IsSessionOf};
 ghost use Rattle.blink_grow_laws.specs.Racing.{OneIsInserted};
 
 use crate::back::push;
+use crate::calls::change;
 use blink_batch::{Answer, Op};
 use blink_grow::{GrowError, GrowingMap, Session};
 use blink_index::Index;
 use std::alloc::Global;
 use std::sync::Wait;
-use std::thread::{Threads, join_mut};
+use std::thread::{Threads, join};
 
 /// Opens a growing map over an index, lets two of its sessions insert one key that the index lacks, each in a thread of its own, and
 /// closes the map. Exactly one of them is answered `Inserted`, and the other one that the key has the first one's pointer.
@@ -28,15 +29,17 @@ pub fn two_insert<R: Threads + Wait + Sync>(
     ensures { IfOk result (λ answers. OneIsInserted pointers.0 pointers.1 answers.0 answers.1) }
 {
     let (map, mut sessions) = GrowingMap::open(alloc, index, places)?;
-    let Some(mut one) = sessions.pop() else {
+    let Some(one) = sessions.pop() else {
         return Err(GrowError::Sessions);
     };
-    let Some(mut other) = sessions.pop() else {
+    let Some(other) = sessions.pop() else {
         return Err(GrowError::Sessions);
     };
-    let answers = both_insert(rt, alloc, &map, &mut one, &mut other, key, pointers);
-    let first = answers.0?;
-    let second = answers.1?;
+    let ((one, by_one), (other, by_other)) = both_insert(
+        rt, alloc, &map, one, other, key, pointers,
+    );
+    let first = by_one?;
+    let second = by_other?;
     push(&mut sessions, other)?;
     push(&mut sessions, one)?;
     match map.close(alloc, sessions) {
@@ -45,23 +48,26 @@ pub fn two_insert<R: Threads + Wait + Sync>(
     }
 }
 
+// An insertion by a session, which comes back with what it was answered.
+type Tried = (Session, Result<Answer, GrowError>);
+
 fn both_insert<R: Threads + Wait + Sync>(
     rt: &R,
     alloc: Global,
     map: &GrowingMap,
-    one: &mut Session,
-    other: &mut Session,
+    one: Session,
+    other: Session,
     key: u64,
     pointers: (u64, u64),
-) -> (Result<Answer, GrowError>, Result<Answer, GrowError>)
-    requires ones { IsSessionOf map.now one.old }
-    requires others { IsSessionOf map.now other.old }
-    ensures ones { IfOk result.0 (IsAnswered map.now (Insert key pointers.0) one.old one.new) }
-    ensures others { IfOk result.1 (IsAnswered map.now (Insert key pointers.1) other.old other.new) }
+) -> (Tried, Tried)
+    requires ones { IsSessionOf map.now one }
+    requires others { IsSessionOf map.now other }
+    ensures ones { IfOk result.0.1 (IsAnswered map.now (Insert key pointers.0) one result.0.0) }
+    ensures others { IfOk result.1.1 (IsAnswered map.now (Insert key pointers.1) other result.1.0) }
 {
-    join_mut(
+    join(
         rt,
-        &mut || map.change(rt, alloc, one, Op::Insert(key, pointers.0)),
-        &mut || map.change(rt, alloc, other, Op::Insert(key, pointers.1)),
+        || change(rt, alloc, map, one, Op::Insert(key, pointers.0)),
+        || change(rt, alloc, map, other, Op::Insert(key, pointers.1)),
     )
 }

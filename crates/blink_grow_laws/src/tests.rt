@@ -1,6 +1,7 @@
 //! Each law's program is run once, over a small index.
 use crate::counter::count_by_two;
 use crate::race::two_insert;
+use crate::shown::{insert_and_show, open_and_find};
 use crate::whole::{close_with_all, open_and_close};
 use blink_batch::Answer;
 use blink_grow::GrowingMap;
@@ -13,6 +14,22 @@ fn a_map_that_nobody_changes_closes_as_it_was_opened(rt: HostRuntime) {
     index.insert(5, 50).expect(&rt, "no memory");
     let closed = open_and_close(alloc, &index, 256).expect(&rt, "not closed");
     assert_eq!(&rt; (closed.len(), closed.find(5)), (1, Some(50)));
+}
+
+#[test]
+fn a_map_has_what_its_index_has(rt: HostRuntime) {
+    let alloc = rt.alloc();
+    let mut index = Index::new(alloc, 4).expect(&rt, "no index");
+    index.insert(5, 50).expect(&rt, "no memory");
+    assert_eq!(&rt; open_and_find(&rt, alloc, &index, 256, 5), Ok(Some(50)));
+    assert_eq!(&rt; open_and_find(&rt, alloc, &index, 256, 6), Ok(None));
+}
+
+#[test]
+fn a_session_that_is_told_finds_what_another_inserted(rt: HostRuntime) {
+    let alloc = rt.alloc();
+    let index = Index::new(alloc, 4).expect(&rt, "no index");
+    assert_eq!(&rt; insert_and_show(&rt, alloc, &index, 2, 9, 90), Ok(Some(90)));
 }
 
 #[test]

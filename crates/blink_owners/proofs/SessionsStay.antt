@@ -24,7 +24,7 @@ use Rattle.blink_owners.specs.declared.shared_map.SharedMap.{SharedMap}
 use Rattle.blink_owners.specs.MapCodes.{refusal_of}
 use Rattle.blink_owners.specs.declared.raw.RawAnswer.{RawAnswer}
 use Rattle.blink_owners.specs.Raw.{raw_answer}
-use Rattle.blink_owners.specs.Sessions.{Answers, HasAnswered, IsAtHand, IsAway, IsChangeRefusal, IsEmpty, IsGripped, IsNotMade, IsOwnSession, IsOfSame, IsRested, IsShortage, IsTakenOut, IsUnderWayIn, IsUntouched, KnowsSame, SeesMore, StaysAtHand, in_map, known_in, known_of, place_among, place_in}
+use Rattle.blink_owners.specs.Sessions.{Answers, EndsFrom, HasAnswered, IsAdvanceRefusal, IsAtHand, IsAway, IsChangeRefusal, IsEmpty, IsGripped, IsNotMade, IsOwnSession, IsOfSame, IsRested, IsShortage, IsTakenOut, IsUnderWay, IsUnderWayIn, IsUntouched, KnowsSame, SeesMore, StaysAtHand, in_map, known_in, known_of, place_among, place_in}
 
 pub prefix_through : {A : Type 0} (old mid new : List A) → IsPrefix old mid → IsPrefix mid new → IsPrefix old new
 prefix_through {A} old mid new one other = (one.0 ++ other.0, sym (append_assoc old one.0 other.0) ∙ (ap (λ (l : List A). l ++ other.0) one.1 ∙ other.1))
@@ -322,3 +322,30 @@ not_renewed op old new refusal (inr full) sees =
 
 -- what a change makes of its renewals
 pub ruleset renewals = (answers_through, refused_through, not_renewed, sees_through, sees_itself)
+
+-- ---- a session that has no operation to go on with
+
+-- an advance leaves it as it was
+module _ (old new : SessionOwner) (answer : RawAnswer) where
+  as_it_was : (doing : Option UnderWay) → is_some doing ≡ false → (outcome : Result (Unit {0}) MapRefusal) → OnOk outcome (EndsFrom doing old new answer) → IfErr outcome (IsAdvanceRefusal doing old new) → new ≡ old
+  as_it_was None idle (Ok done) ended refused = absurd ended
+  as_it_was None idle (Err refusal) ended refused = refused.1
+  as_it_was (Some doing) idle outcome ended refused = absurd (cc idle)
+
+  pub idle_after : (outcome : Result (Unit {0}) MapRefusal) → OnOk outcome (EndsFrom old.under_way old new answer) → IfErr outcome (IsAdvanceRefusal old.under_way old new) → IsAtHand old → IsAtHand new
+  idle_after outcome ended refused idle = subst IsAtHand (sym (as_it_was old.under_way idle outcome ended refused)) idle
+
+-- and where it is neither free nor held it wasn't at hand
+pub was_under_way : (first last : SessionOwner) → IsOwnSession last → last.free ≡ None → last.held ≡ None → (IsAtHand first → IsAtHand last) → IsUnderWay first
+was_under_way first last its not_free not_held stays = by first.under_way refl
+  where
+    away : is_none last.under_way ≡ false
+    away = sym its.one ∙ (λ i. is_some (not_free i) || is_some (not_held i))
+
+    busy_then : (doing : Option UnderWay) → is_none doing ≡ false → is_some doing ≡ false → ⊥
+    busy_then None busy idle = absurd (cc busy)
+    busy_then (Some doing) busy idle = absurd (cc idle)
+
+    by : (doing : Option UnderWay) → first.under_way ≡ doing → IsUnderWay first
+    by (Some doing) is = ap is_some is
+    by None is = absurd (busy_then last.under_way away (stays (ap is_some is)))

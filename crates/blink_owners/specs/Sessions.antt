@@ -1,8 +1,7 @@
 -- A session behind a handle: what the calls make of it, and why they are refused. What a session has seen and made is
 -- what it knows (`Known`), whether it is free, held, or has an operation under way.
-use Rattle.std.specs.Prelude.{◌≡◌, ◌≢◌, ◌⊎◌, ◌||◌, ◌&&◌, ◌==◌, ℕ, Bool, false, IsTrue, Option, Some, None, IfSome, IsNone, IsSome, List, [], is_none, is_some}
+use Rattle.std.specs.Prelude.{◌≡◌, ◌⊎◌, ◌||◌, ◌&&◌, ◌==◌, ℕ, Bool, false, IsTrue, Option, Some, None, IfSome, IsNone, IsSome, List, [], is_none, is_some}
 use Rattle.std.specs.Arc.{arc_value}
-use mathlib.Core.List.{IsPrefix}
 use Rattle.blink_batch.specs.declared.Answer.{Answer}
 use Rattle.blink_batch.specs.declared.Entry.{Entry}
 use Rattle.blink_batch.specs.declared.Op.{Op}

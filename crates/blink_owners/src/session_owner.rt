@@ -1,10 +1,10 @@
 //! What the box of a session's handle holds: an owner of the map, and the session or its operation.
-ghost use Rattle.std.specs.Prelude.{◌≡◌, IfErr, IfOk, IfSome, IsNone, IsSome, None, OnErr, OnOk, Some};
+ghost use Rattle.std.specs.Prelude.{◌≡◌, IfErr, IfOk, IfSome, IsFalse, IsNone, IsSome, IsTrue, None, OnErr, OnOk, Some};
 ghost use mathlib.Core.List.{IsPrefix};
 ghost use Rattle.blink_batch.specs.{FitsWords};
 ghost use Rattle.blink_grow.specs.{IsHeldOf, IsPendingOf, IsRefusalOf, IsUpdate};
 ghost use Rattle.blink_owners.specs.Raw.{raw_answer};
-ghost use Rattle.blink_owners.specs.Sessions.{Answers, EndsFrom, Finds, HasAnswered, HasPut, HasStepped, IsAdvanceRefusal, IsAtHand, IsAway, IsChangeRefusal, IsEmpty, IsGripped, IsNotMade, IsNotPut, IsOfPut, IsOwnSession, IsPutRefusal, IsRested, IsStepRefusal, IsTakeRefusal, IsTakenOut, IsUntouched, KnowsSame, Puts, SeesMore, Scans, ScansBack, Takes, TellsStock, in_map, is_putting, known_in, place_in, put_in, tells_put};
+ghost use Rattle.blink_owners.specs.Sessions.{Answers, EndsFrom, Finds, HasAnswered, HasPut, HasStepped, IsAdvanceRefusal, IsAtHand, IsAway, IsChangeRefusal, IsEmpty, IsGripped, IsNotMade, IsNotPut, IsOfPut, IsOwnSession, IsPutRefusal, IsRested, IsStepRefusal, IsTakeRefusal, IsTakenOut, IsUnderWay, IsUntouched, KnowsSame, Puts, SeesMore, Scans, ScansBack, Takes, TellsStock, in_map, is_putting, known_in, place_in, put_in, tells_put};
 
 use crate::map_refusal::MapRefusal;
 use crate::raw::{ABSENT, INSERTED, REMOVED, REPLACED, RawAnswer, RawScanned, RawStock, RawTaken};
@@ -521,6 +521,8 @@ impl SessionOwner {
         requires its_own { IsOwnSession self.old }
         ensures its_own { IsOwnSession self.new }
         ensures held { OnOk result (SeesMore self.old self.new) }
+        ensures stays_held { OnOk result (IsSome self.new.held) }
+        ensures kept { OnOk result (IsTrue self.new.keeps) }
         ensures refused { IfErr result (IsAway self.old self.new) }
     {
         let held = self.grip(tries)?;
@@ -535,6 +537,8 @@ impl SessionOwner {
         ensures its_own { IsOwnSession self.new }
         ensures same { KnowsSame self.old self.new }
         ensures goes_on { self.new.under_way ≡ self.old.under_way }
+        ensures not_held { self.new.held ≡ None }
+        ensures not_kept { IsFalse self.new.keeps }
     {
         self.keeps = false;
         self.loosen();
@@ -547,6 +551,7 @@ impl SessionOwner {
         ensures same { KnowsSame self.old self.new }
         ensures goes_on { self.new.under_way ≡ self.old.under_way }
         ensures not_held { self.new.held ≡ None }
+        ensures same_keeps { self.new.keeps ≡ self.old.keeps }
     {
         if let Some(held) = self.held.take() {
             self.free = Some(self.shared.map.release(held));
@@ -579,10 +584,11 @@ impl SessionOwner {
         Ok(())
     }
 
-    /// Frees the owner. The session rests at its place again. An operation or a put under way goes on before, as by `advance`, so many
-    /// times. If it still waits then, the session is lost, and the map can't be renewed or closed.
-    pub fn free(self, alloc: Global, tries: u32)
+    /// Frees the owner, and returns whether the session rests at its place again. An operation or a put under way goes on before, as by
+    /// `advance`, so many times. If it still waits then, and only then, the session is lost, and the map can't be renewed or closed.
+    pub fn free(self, alloc: Global, tries: u32) -> bool
         requires its_own { IsOwnSession self }
+        ensures lost { IsFalse result → IsUnderWay self }
     {
         let mut owner = self;
         let mut answer = RawAnswer::shown(None);
@@ -593,9 +599,11 @@ impl SessionOwner {
             }
         }
         owner.let_go();
-        if let Some(session) = owner.free.take() {
-            owner.shared.places.leave(session);
-        }
+        let Some(session) = owner.free.take() else {
+            return false;
+        };
+        owner.shared.places.leave(session);
+        true
     }
 
     // Takes the session out, held.

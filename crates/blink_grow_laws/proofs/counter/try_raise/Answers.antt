@@ -9,4 +9,4 @@ returns-then-there g c = c.find.ensures.same
 
 pub returns : goal.returns
 returns g c =
-    tried_after c.args.map.now c.args.key c.args.session.now c.find.new.session c.raise_from.new.session c.find.ensures.same c.raise_from.result c.raise_from.ensures
+    tried_after c.args.map.now c.args.key c.args.session c.find.new.session c.raise_from.result.0 c.find.ensures.same c.raise_from.result.1 c.raise_from.ensures

@@ -1,12 +1,13 @@
-use Rattle.std.proofs.Common.{◌≡◌, ◌∷◌, [], ◌++◌, None, List, sym, ap, ◌∙◌, subst}
+use Rattle.std.proofs.Common.{◌∷◌, [], ◌++◌, List, sym, ap, ◌∙◌, subst}
 use Rattle.std.specs.Prelude.{All}
 use Rattle.blink_batch.specs.declared.Entry.{Entry}
 use Rattle.blink_batch.specs.declared.Op.TheVariants.{Insert}
 use Rattle.blink_batch.specs.{pointer_of}
 use Rattle.blink_grow.specs.declared.growing.GrowingMap.{GrowingMap}
 use Rattle.blink_grow.specs.declared.growing.Session.{Session}
-use Rattle.blink_grow.specs.{AreFirstSessions, IsAnswered, IsListOf, IsSessionOf, opening_of}
-use Rattle.blink_grow_laws.proofs.OnlyTwoInsert.{all_its, in_ok, one_wins}
+use Rattle.blink_grow.specs.{AreFirstSessions, IsAnswered, IsListOf, IsSessionOf}
+use Rattle.blink_grow_laws.proofs.OnlyTwo.{all_its, in_ok}
+use Rattle.blink_grow_laws.proofs.OnlyTwoInsert.{one_wins}
 use Rattle.blink_grow_laws.proofs.race.two_insert.Goals as goal
 
 pub close-requires : goal.close-requires
@@ -17,10 +18,10 @@ close-requires g c =
     let other : Session = c.in-Some-pop.other in
     let dealt = c.in-Some.ensures.items ∙ ap (λ (l : List Session). l ++ one ∷ []) c.in-Some-pop.ensures.items in
     let first : AreFirstSessions map ((rest ++ other ∷ []) ++ one ∷ []) = subst (AreFirstSessions map) dealt c.in_ok-map.ensures.dealt in
-    let ones = in_ok c.both_insert-answers.result.0 (IsAnswered map (Insert c.args.key c.args.pointers.0) one c.both_insert-answers.new.one) c.in_ok-first.first c.in_ok-first.was c.both_insert-answers.ensures.ones in
-    let others = in_ok c.both_insert-answers.result.1 (IsAnswered map (Insert c.args.key c.args.pointers.1) other c.both_insert-answers.new.other) c.in_ok-second.second c.in_ok-second.was c.both_insert-answers.ensures.others in
-    let items = c.in_ok-push-2.ensures ∙ ap (λ (l : List Session). l ++ c.both_insert-answers.new.one ∷ []) c.in_ok-push.ensures in
-    record { its_own = subst (All (IsSessionOf map)) (sym items) (all_its map rest other one first c.both_insert-answers.new.other c.both_insert-answers.new.one others.same_slot ones.same_slot) }
+    let ones = in_ok c.both_insert-one.result.0.1 (IsAnswered map (Insert c.args.key c.args.pointers.0) one c.both_insert-one.result.0.0) c.in_ok-first.first c.in_ok-first.was c.both_insert-one.ensures.ones in
+    let others = in_ok c.both_insert-one.result.1.1 (IsAnswered map (Insert c.args.key c.args.pointers.1) other c.both_insert-one.result.1.0) c.in_ok-second.second c.in_ok-second.was c.both_insert-one.ensures.others in
+    let items = c.in_ok-push-2.ensures ∙ ap (λ (l : List Session). l ++ c.both_insert-one.result.0.0 ∷ []) c.in_ok-push.ensures in
+    record { its_own = subst (All (IsSessionOf map)) (sym items) (all_its map rest other one first c.both_insert-one.result.1.0 c.both_insert-one.result.0.0 others.same_slot ones.same_slot) }
 
 pub returns-in-Ok : goal.returns-in-Ok
 returns-in-Ok g c =
@@ -28,12 +29,12 @@ returns-in-Ok g c =
     let rest : List Session = c.pop-2.new.self.items in
     let one : Session = c.in-Some.one in
     let other : Session = c.in-Some-pop.other in
-    let new_one : Session = c.both_insert-answers.new.one in
-    let new_other : Session = c.both_insert-answers.new.other in
+    let new_one : Session = c.both_insert-one.result.0.0 in
+    let new_other : Session = c.both_insert-one.result.1.0 in
     let dealt = c.in-Some.ensures.items ∙ ap (λ (l : List Session). l ++ one ∷ []) c.in-Some-pop.ensures.items in
     let first : AreFirstSessions map ((rest ++ other ∷ []) ++ one ∷ []) = subst (AreFirstSessions map) dealt c.in_ok-map.ensures.dealt in
-    let ones = in_ok c.both_insert-answers.result.0 (IsAnswered map (Insert c.args.key c.args.pointers.0) one new_one) c.in_ok-first.first c.in_ok-first.was c.both_insert-answers.ensures.ones in
-    let others = in_ok c.both_insert-answers.result.1 (IsAnswered map (Insert c.args.key c.args.pointers.1) other new_other) c.in_ok-second.second c.in_ok-second.was c.both_insert-answers.ensures.others in
+    let ones = in_ok c.both_insert-one.result.0.1 (IsAnswered map (Insert c.args.key c.args.pointers.0) one new_one) c.in_ok-first.first c.in_ok-first.was c.both_insert-one.ensures.ones in
+    let others = in_ok c.both_insert-one.result.1.1 (IsAnswered map (Insert c.args.key c.args.pointers.1) other new_other) c.in_ok-second.second c.in_ok-second.was c.both_insert-one.ensures.others in
     let items = c.in_ok-push-2.ensures ∙ ap (λ (l : List Session). l ++ new_one ∷ []) c.in_ok-push.ensures in
     let closed = c.in-Ok.ensures.entries in
     let is_list : IsListOf map ((rest ++ new_other ∷ []) ++ new_one ∷ []) closed.final = subst (λ (l : List Session). IsListOf map l closed.final) items closed.is_list in
