@@ -1,7 +1,7 @@
 //! A growing map and one session, whose calls have no condition: what is so of them is in the type.
-ghost use Rattle.std.specs.Prelude.{◌≡◌, ◌≢◌, All, IfOk};
+ghost use Rattle.std.specs.Prelude.{All, IfOk};
 ghost use Rattle.blink_batch.specs.{FitsWords};
-ghost use Rattle.blink_grow.specs.{IsHeldOf, IsPendingOf, IsSessionOf, IsUpdate, place_of, places_of};
+ghost use Rattle.blink_grow.specs.{IsHeldOf, IsPendingOf, IsSessionOf, IsUpdate};
 
 use crate::same::same_for;
 use blink_batch::{Answer, Op};
@@ -278,8 +278,6 @@ fn to_end<R: Wait>(rt: &R, map: &GrowingMap, pending: PendingHeld) -> (Held, Ans
 pub(crate) fn two(rt: &impl Abort, alloc: Global) -> (GrowingMap, Session, Session)
     ensures ones { IsSessionOf result.0 result.1 }
     ensures others { IsSessionOf result.0 result.2 }
-    ensures apart { place_of result.1 ≢ place_of result.2 }
-    ensures no_third { places_of result.0 ≡ 2 }
 {
     let (map, mut sessions) = GrowingMap::new(alloc, 2).expect(rt, "no map");
     let other = sessions.pop().expect(rt, "no second session");

@@ -4,8 +4,6 @@
 #[cfg(test)]
 mod beside;
 #[cfg(test)]
-mod clients;
-#[cfg(test)]
 mod ends;
 #[cfg(test)]
 mod filling;
