@@ -14,8 +14,3 @@ IsFirstFrom opening old new lo (Some e) = IsReport opening old new lo (e.key + 1
 abbrev pub IsLastTo : List Entry → List Change → List Change → ℕ → Option Entry → Type 0
 IsLastTo opening old new hi None = IsReportBack opening old new 0 hi []
 IsLastTo opening old new hi (Some e) = IsReportBack opening old new e.key hi (e ∷ [])
-
--- the entry as a list, if there is one
-abbrev pub listed : Option Entry → List Entry
-listed None = []
-listed (Some e) = e ∷ []

@@ -21,12 +21,12 @@ use blink_rows::Span;
 use std::snapshot::Snapshot;
 
 impl Map {
-    /// Runs an operation that changes the map: what `begin` and a first `advance` do. Where no other session has a latch that the
-    /// operation wants, nothing of it is made to rest and goes on again.
+    /// Runs an operation that changes the map. Where no other session has a latch that the operation wants, it ends at once.
     ///
-    /// It stops where `begin` refuses, and gives the session back, but for an insertion whose key is there: it looks the key up then, and
-    /// answers. It also stops where `advance` gives the operation back, after `tries` steps in vain, at least one. The call takes no memory,
-    /// waits for nobody, and returns.
+    /// It stops where the session lacks room for the operation, those rows too that are on their way back, or where its shelf is full, and
+    /// gives the session back. But an insertion whose key is there is answered: the call looks the key up then. It also stops where
+    /// `advance` would give the operation back, after `tries` steps in vain, at least one. The call takes no memory, waits for nobody, and
+    /// returns.
     pub fn start(&self, session: Session, op: Op, tries: u32) -> Result<(Session, Answer), Stopped>
         requires its_own { IsSessionOf self.now session }
         requires updates { IsUpdate op }

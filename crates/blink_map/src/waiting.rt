@@ -5,8 +5,8 @@
 // reads a word that the other session is about to write.
 pub(crate) const SPINS: u32 = 8;
 
-// How often a call of a session that is short of rows looks whether they come back, before `Map::change` yields, or `begin` and `start`
-// refuse. Each look goes over places of other sessions.
+// How often a call of a session that is short of rows looks whether they come back, before `Map::change` yields, or `start` stops. Each
+// look goes over places of other sessions.
 pub(crate) const LOOKS: u32 = 64;
 
 // As many rows at least wait together, so that two looks at each of 256 places are a few loads a change. A session lets rows wait also
