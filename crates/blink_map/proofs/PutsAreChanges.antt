@@ -6,13 +6,13 @@ use Rattle.blink_batch.specs.declared.Op.{Op}
 use Rattle.blink_batch.specs.declared.Op.TheVariants.{Delete, DeleteExact, Exchange, Find, Insert, Replace}
 use Rattle.blink_batch.specs.{answer_at, pointer_of}
 use Rattle.blink_live.specs.declared.view.Change.{Change}
-use Rattle.blink_live.specs.{HasSpaceFor, after, changes_made, free_in, length_of, pages_of, rows_of, rows_on}
+use Rattle.blink_live.specs.{HasSpaceFor, after, changes_made, free_in, length_of, pages_of, rows_of}
 use Rattle.blink_live.specs.declared.shelf.Shelf.{Shelf}
 use Rattle.blink_rows.specs.declared.span.Span.{Span}
 use Rattle.blink_map.specs.declared.map.Map.{Map}
 use Rattle.blink_map.specs.declared.map.Session.{Session}
 use Rattle.blink_map.specs.Putting.{HasTried, IsUnchangedBy, LacksKeyOf, WasAbsent}
-use Rattle.blink_map.specs.Sessions.{IsAnswered, IsSameBesideRoom, IsSameBesideSeen, IsSameMember, LacksRoom, LacksRoomInAll, made_by, opening_of, place_of, seen_by}
+use Rattle.blink_map.specs.Sessions.{IsAnswered, IsSameBesideRoom, IsSameBesideSeen, IsSameMember, LacksRoom, made_by, opening_of, place_of, seen_by}
 
 -- ---- a refused operation; an insertion for which a session lacks room has looked its key up
 
@@ -64,9 +64,3 @@ still_lacks op old middle new looked lacks = record {
     space = subst (λ (x : Option Shelf). HasSpaceFor x (rows_of op)) looked.shelf has.space;
   });
 }
-
-pub still_lacks_in_all : (op : Op) (middle new : Session) → IsSameBesideSeen middle new → LacksRoomInAll op middle → LacksRoomInAll op new
-still_lacks_in_all op middle new looked lacks has = lacks (record {
-  enough_rows = subst (λ (x : Span × Option Shelf). rows_of op ≤ length_of x.0 + rows_on x.1) (λ i. (looked.rows i, looked.shelf i)) has.enough_rows;
-  enough_pages = subst (λ (x : Span). pages_of op ≤ length_of x) looked.pages has.enough_pages;
-})

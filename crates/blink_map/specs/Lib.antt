@@ -12,8 +12,6 @@ pub use Rattle.blink_map.specs.Pendings.{GoesOn, HasBegun, IsPendingOf, op_of, s
 pub use Rattle.blink_map.specs.Starting.{HasStopped}
 -- what a refused operation makes of its session, and an entry that is put
 pub use Rattle.blink_map.specs.Putting.{HasTried, IsUnchangedBy, LacksKeyOf, WasAbsent, change_to}
--- the first and the last entry of a range
-pub use Rattle.blink_map.specs.Ends.{IsFirstFrom, IsLastTo}
 -- what a session has of rows and page numbers
 pub use Rattle.blink_map.specs.Stocks.{stock_of}
 -- ---- for proofs above
@@ -25,7 +23,6 @@ pub mod Changing
 pub mod Pendings
 pub mod Telling
 pub mod Drawing
-pub mod Ends
 pub mod Opening
 pub mod Putting
 pub mod Places
