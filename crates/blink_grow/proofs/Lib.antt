@@ -18,5 +18,4 @@ pub mod Tries
 pub mod SeatsCompare
 pub mod Closes
 pub mod Tells
-pub mod EndsOfReports
 pub mod PlacesKept

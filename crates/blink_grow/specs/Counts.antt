@@ -1,18 +1,12 @@
 -- How many changes of a session are counted.
-use Rattle.std.specs.Prelude.{ℕ, ◌+◌, Result, Ok, Err, List, [], ◌∷◌, if◌then◌else◌}
+use Rattle.std.specs.Prelude.{ℕ, ◌+◌, List, [], ◌∷◌, if◌then◌else◌}
 use Rattle.blink_batch.specs.declared.Answer.{Answer}
 use Rattle.blink_live.specs.{has_changed}
-use Rattle.blink_map.specs.declared.error.Full.{Full}
 use Rattle.blink_grow.specs.declared.slots.Current.{Current}
 
 -- how many changes an operation with this answer has made
 abbrev pub made_with : Answer → ℕ
 made_with answer = if has_changed answer then 1 else 0
-
--- how many one has made that may have been refused
-abbrev pub made_in : Result Answer Full → ℕ
-made_in (Ok answer) = made_with answer
-made_in (Err full) = 0
 
 -- how many are counted of these sessions together
 abbrev pub changes_of : List Current → ℕ

@@ -17,8 +17,6 @@ pub use Rattle.blink_grow.specs.Opening.{AreFirstSessions, HasBadSessions, IsFir
 pub use Rattle.blink_grow.specs.Closing.{IsClosedWith, IsListOf, IsUnclosed}
 -- why a map wasn't renewed
 pub use Rattle.blink_grow.specs.Renewing.{IsRefusal, IsRefusalOf}
--- the first and the last entry of a range
-pub use Rattle.blink_map.specs.{IsFirstFrom, IsLastTo}
 -- ---- files that no crate above names
 pub mod Counts
 pub mod Rule

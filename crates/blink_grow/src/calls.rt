@@ -12,9 +12,8 @@ use crate::growing::GrowingMap;
 use crate::slots::{Current, Enter, Give, SLOT_WORDS, SlotView, Switch, Take};
 use crate::waiting::Patience;
 use atomic_table::Seat;
-use std::sync::Wait;
+use std::hint;
 use std::sync::atomic::{AtomicBool, Ordering};
-use std::{hint, thread};
 
 // The word of a slot in which a session lies, and of one that is taken.
 const FREE: u64 = 0;
@@ -53,29 +52,6 @@ impl GrowingMap {
             .shared
             .compare_exchange::<Take>(seat, SLOT_WORDS * slot, FREE, TAKEN);
         found == FREE
-    }
-
-    // Takes a slot for a search, waits for it, and leaves the session in it. It lets a renewal that gathers the sessions go first.
-    pub(crate) fn take_slot<R: Wait>(
-        &self,
-        rt: &R,
-        seat: &mut Seat<Option<Current>, SlotView>,
-        slot: usize,
-    )
-        requires its_own { seat.old.table_id ≡ self.now.table.shared.table_id }
-        requires in_range { slot < seat.old.table_id.slots }
-        requires some_slot { 0 < seat.old.me.0.slots }
-        ensures same { seat.new.table_id ≡ seat.old.table_id }
-        ensures taken { HasTakenSlot slot seat.old.me seat.new.me }
-    {
-        self.wait_for_gathering(rt);
-        for _ in rt.forever() {
-            if self.try_take_slot(seat, slot) {
-                return;
-            }
-            thread::yield_now();
-        }
-        unreachable!()
     }
 
     // Takes a slot, and leaves the session in it. It looks `tries` times, at least once, and lets a renewal go first that has set this word: all
@@ -161,65 +137,6 @@ impl GrowingMap {
         } else {
             None
         }
-    }
-
-    // Waits while a renewal gathers the sessions.
-    fn wait_for_gathering<R: Wait>(&self, rt: &R) {
-        for _ in rt.forever() {
-            if !self.gathering.load(Ordering::SeqCst) {
-                return;
-            }
-            thread::yield_now();
-        }
-    }
-
-    // Takes the session out of a slot for a change, or to hold it, and waits for it. It lets a renewal go first.
-    pub(crate) fn take_to_change<R: Wait>(
-        &self,
-        rt: &R,
-        seat: &mut Seat<Option<Current>, SlotView>,
-        slot: usize,
-    ) -> Current
-        requires its_own { seat.old.table_id ≡ self.now.table.shared.table_id }
-        requires in_range { slot < seat.old.table_id.slots }
-        requires some_slot { 0 < seat.old.me.0.slots }
-        ensures same { seat.new.table_id ≡ seat.old.table_id }
-        ensures taken { Taken slot result None seat.old.me seat.new.me }
-    {
-        self.wait_for_renewal(rt);
-        self.take_at_once(rt, seat, slot)
-    }
-
-    // Waits while somebody renews the map.
-    pub(crate) fn wait_for_renewal<R: Wait>(&self, rt: &R) {
-        for _ in rt.forever() {
-            if !self.renewing.load(Ordering::SeqCst) {
-                return;
-            }
-            thread::yield_now();
-        }
-    }
-
-    // Takes the session out of a slot, and waits for it.
-    pub(crate) fn take_at_once<R: Wait>(
-        &self,
-        rt: &R,
-        seat: &mut Seat<Option<Current>, SlotView>,
-        slot: usize,
-    ) -> Current
-        requires its_own { seat.old.table_id ≡ self.now.table.shared.table_id }
-        requires in_range { slot < seat.old.table_id.slots }
-        requires some_slot { 0 < seat.old.me.0.slots }
-        ensures same { seat.new.table_id ≡ seat.old.table_id }
-        ensures taken { Taken slot result None seat.old.me seat.new.me }
-    {
-        for _ in rt.forever() {
-            if let Some(held) = self.try_take(seat, slot) {
-                return held;
-            }
-            thread::yield_now();
-        }
-        unreachable!()
     }
 
     // Takes the session out of a slot; `None`, if it wasn't there so often.

@@ -1,10 +1,9 @@
 //! The changes that a session has made in the current map are counted. So a renewal knows whether one was made while it copied the entries.
 ghost use Rattle.std.specs.Prelude.{◌≡◌, ◌+◌, ◌<◌, ◌^◌};
-ghost use Rattle.blink_grow.specs.Counts.{changes_of, made_in, made_with};
+ghost use Rattle.blink_grow.specs.Counts.{changes_of, made_with};
 
 use crate::slots::Current;
 use blink_batch::Answer;
-use blink_map::Full;
 
 // How many changes are counted after an operation with this answer, up to the greatest number of 64 bits.
 pub(crate) fn counted(changes: u64, answer: Answer) -> u64
@@ -13,16 +12,6 @@ pub(crate) fn counted(changes: u64, answer: Answer) -> u64
     match answer {
         Answer::Inserted | Answer::Removed(_) | Answer::Replaced(_) => changes.saturating_add(1),
         Answer::Found(_) | Answer::Absent | Answer::Exists(_) => changes,
-    }
-}
-
-// The same after an operation that may have been refused.
-pub(crate) fn counted_by(changes: u64, outcome: &Result<Answer, Full>) -> u64
-    ensures { result + 1 < 2 ^ 64 → result ≡ changes + made_in outcome.now }
-{
-    match outcome {
-        Ok(answer) => counted(changes, *answer),
-        Err(_) => changes,
     }
 }
 

@@ -5,27 +5,11 @@ ghost use Rattle.blink_grow.specs.Sessions.{IsSameSession, IsSessionOf};
 
 use crate::growing::{GrowingMap, Session};
 use crate::held::Held;
-use std::sync::Wait;
 
 impl GrowingMap {
-    /// Holds a session, so that calls on it wait for nobody until it is released. It holds back a renewal and a close meanwhile, and
-    /// nothing else. The call takes no memory, and waits while the map is renewed.
-    pub fn hold<R: Wait>(&self, rt: &R, session: Session) -> Held
-        requires its_own { IsSessionOf self.now session }
-        ensures its_own { IsHeldOf self.now result }
-        ensures held { IsHeldFrom session result }
-    {
-        let Session { mut seat, slot } = session;
-        let current = self.take_to_change(rt, &mut seat, slot);
-        Held {
-            seat,
-            slot,
-            current,
-        }
-    }
-
-    /// Holds a session as `hold` does, if it can. It looks `tries` times, at least once, and lets a renewal that has begun go first. The
-    /// call takes no memory, waits for nobody, and returns.
+    /// Holds a session, if it can, so that calls on it wait for nobody until it is released. It holds back a renewal and a close meanwhile,
+    /// and nothing else. The call looks `tries` times, at least once, and lets a renewal that has begun go first. It takes no memory, waits
+    /// for nobody, and returns.
     ///
     /// The call gives the session back as it was, if the map was renewed, or was about to be, at each look.
     pub fn try_hold(&self, session: Session, tries: u32) -> Result<Held, Session>

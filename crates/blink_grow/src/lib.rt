@@ -5,13 +5,10 @@
 
 mod advance;
 mod calls;
-mod change;
 mod close;
 mod copy;
 mod counts;
-mod ends;
 mod error;
-mod find;
 mod gather;
 mod growing;
 mod held;
@@ -25,11 +22,8 @@ mod places;
 mod prepare;
 mod renew;
 mod room;
-mod scan;
-mod scan_back;
 mod sessions;
 mod slots;
-mod snapshot;
 mod start;
 mod tell;
 mod try_change;

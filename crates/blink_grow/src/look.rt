@@ -15,7 +15,7 @@ use blink_map::Stock;
 use std::alloc::{AllocError, Global};
 
 impl GrowingMap {
-    /// Looks up a key by a held session, as `find` does. The call takes no memory, waits for nobody, and returns.
+    /// Looks up a key by a held session, as `try_find` does. The call takes no memory, waits for nobody, and returns.
     pub fn find_held(&self, held: &mut Held, key: u64) -> Option<u64>
         requires its_own { IsHeldOf self.now held.old }
         ensures state { result ≡ after (pointer_of (opening_of self.now)) (seen_by_held held.new) key }
@@ -36,7 +36,7 @@ impl GrowingMap {
     }
 
     /// Looks up several keys by a held session, of which the loads overlap, as `Map::find_all` of `blink_map` does: to each key it
-    /// answers, in its place, what `find` would answer, after the changes of all keys that the session has seen by then. The call takes no
+    /// answers, in its place, what `find_held` would answer, after the changes of all keys that the session has seen by then. The call takes no
     /// memory, waits for nobody, and returns.
     pub fn find_all_held(&self, held: &mut Held, keys: &[u64], answers: &mut [Option<u64>])
         requires its_own { IsHeldOf self.now held.old }
@@ -59,7 +59,7 @@ impl GrowingMap {
         map.find_all(session, keys, answers);
     }
 
-    /// Reports the entries whose keys are from `lo` to `hi`, both included, in ascending order, by a held session, as `scan` does. The
+    /// Reports the entries whose keys are from `lo` to `hi`, both included, in ascending order, by a held session, as `try_scan` does. The
     /// call takes no memory, waits for nobody, and returns.
     pub fn scan_held(&self, held: &mut Held, lo: u64, hi: u64, into: &mut [Entry]) -> Scanned
         requires its_own { IsHeldOf self.now held.old }
@@ -84,8 +84,8 @@ impl GrowingMap {
         map.scan(session, lo, hi, into)
     }
 
-    /// Reports the entries whose keys are from `lo` to `hi`, both included, in descending order, by a held session, as `scan_back` does.
-    /// The call takes no memory, waits for nobody, and returns.
+    /// Reports the entries whose keys are from `lo` to `hi`, both included, in descending order, by a held session, as `try_scan_back`
+    /// does. The call takes no memory, waits for nobody, and returns.
     pub fn scan_back_held(&self, held: &mut Held, lo: u64, hi: u64, into: &mut [Entry]) -> Scanned
         requires its_own { IsHeldOf self.now held.old }
         ensures report { IsReportBack (opening_of self.now) (seen_by_held held.old)
@@ -110,7 +110,7 @@ impl GrowingMap {
     }
 
     /// Returns the entries whose keys are from `lo` to `hi`, both included, in ascending order, as all of them were at one time in the
-    /// call, by a held session, as `snapshot` does. The call waits for nobody, and returns. If it is refused memory, nothing is changed,
+    /// call, by a held session, as `try_snapshot` does. The call waits for nobody, and returns. If it is refused memory, nothing is changed,
     /// though the session may have seen more.
     pub fn snapshot_held(
         &self,

@@ -11,12 +11,11 @@ use crate::gather::tell_all;
 use crate::growing::{GrowingMap, Session};
 use crate::prepare::Prepared;
 use crate::slots::{Current, SlotView};
-use crate::waiting::{GRACE, Patience, RENEWAL};
+use crate::waiting::{GRACE, Patience};
 use atomic_table::Seat;
 use blink_index::Index;
 use std::alloc::Global;
 use std::hint;
-use std::sync::Wait;
 use std::sync::atomic::Ordering;
 
 /// Why the map is renewed.
@@ -34,26 +33,14 @@ pub(crate) enum Reason {
 pub(crate) type Left = (Current, Index);
 
 impl GrowingMap {
-    /// Renews the map: its entries are packed into another map, with new room for changes. The map does so by itself where a change
-    /// finds no room. Who calls it in good time, from a thread of his own, spares other threads the renewal, and not the pause: changes
-    /// wait while the map is renewed. Searches wait only while the sessions are gathered, before the entries are copied and after, but
-    /// for those of the session of the first place, by which they are copied. Where another thread renews the map already, the call
-    /// waits for it.
+    /// Renews the map: its entries are packed into another map, with new room for changes. Who calls it in good time, from a thread of
+    /// his own, spares other threads the renewal, and not the pause: changes wait while the map is renewed. Searches wait only while the
+    /// sessions are gathered, before the entries are copied and after, but for those of the session of the first place, by which they are
+    /// copied.
     ///
-    /// The call refuses with `Busy`, if a session is held up in the midst of a call, so that a million looks didn't find it in its slot;
-    /// with `TooLarge`, if the entries leave too few of the 1,048,575 page numbers; and with `OutOfMemory`, if memory was refused. Then
-    /// the map goes on with the room that it has left. A map whose room is fixed is never renewed: the call refuses with `Full`, and with
-    /// nothing else.
-    pub fn renew<R: Wait>(&self, rt: &R, alloc: Global) -> Result<(), GrowError>
-        ensures refused { IfErr result (IsRefusalOf self.now) }
-        ensures fixed { IsTrue (is_fixed self.now) → IsErrOf result GrowError.Full }
-    {
-        self.renew_once(rt, alloc, 0, Reason::Asked)
-    }
-
-    /// Renews the map as `renew` does, and waits for nobody before it copies. It looks `looks` times for each session that is in a call,
-    /// or held. Where `full` is the number of the map that was found full (`Held::number`), and the map has been renewed since, it does
-    /// nothing. It takes the time of a copy of all entries. Once they are copied it looks a million times for each session that is in a
+    /// The call waits for nobody before it copies. It looks `looks` times for each session that is in a call, or held. Where `full` is the
+    /// number of the map that was found full (`Held::number`), and the map has been renewed since, it does nothing. It takes the time of a
+    /// copy of all entries. Once they are copied it looks a million times for each session that is in a
     /// search, and copies them once more, while all calls wait, if a change was made meanwhile.
     ///
     /// The call refuses with `Busy`, if a session was in a call, or held, at each look, or another thread was renewing the map at each
@@ -108,28 +95,6 @@ impl GrowingMap {
             None if self.is_renewed_within(looks) => Ok(()),
             None => Err(GrowError::Busy),
         }
-    }
-
-    // Renews the map by the session in this slot, unless another thread does so, or it needn't be renewed any more; or its room is fixed.
-    pub(crate) fn renew_once<R: Wait>(
-        &self,
-        rt: &R,
-        alloc: Global,
-        copier: usize,
-        reason: Reason,
-    ) -> Result<(), GrowError>
-        requires in_range { copier < places_of self.now }
-        ensures refused { IfErr result (IsRefusalOf self.now) }
-        ensures fixed { IsTrue (is_fixed self.now) → IsErrOf result GrowError.Full }
-    {
-        if self.fixed {
-            return Err(GrowError::Full);
-        }
-        if self.renewing.swap(true, Ordering::SeqCst) {
-            self.wait_for_renewal(rt);
-            return Ok(());
-        }
-        self.renew_alone(alloc, copier, reason, RENEWAL)
     }
 
     // Renews the map, unless it needn't be renewed any more, or its room is fixed. `None`, if another thread renews it.

@@ -15,7 +15,7 @@ use std::snapshot::Snapshot;
 
 impl GrowingMap {
     /// Runs an operation that changes the map, by a held session, as `Map::start` of `blink_map` does in the current map. It answers as
-    /// `change` does. The call takes no memory, waits for nobody, and returns.
+    /// `try_change` does. The call takes no memory, waits for nobody, and returns.
     ///
     /// It stops where the session lacks room for the operation in the current map, and has changed nothing then. It also stops where the
     /// operation waits after `tries` steps in vain, at least one: then `advance` takes its next steps, and the session stays held.

@@ -15,30 +15,12 @@ use crate::gather::hear;
 use crate::growing::{GrowingMap, Session};
 use crate::slots::{Compare, Current, PartWithFirst, PutTogether, SlotView};
 use atomic_table::Seat;
-use std::sync::Wait;
-use std::{mem, thread};
+use std::mem;
 
 impl GrowingMap {
     /// Tells session `to` what session `from` has seen: after the call `to` has seen all that `from` had seen, whatever maps the changes
-    /// were made in. The call takes no memory. It waits only while a renewal gathers the sessions (`renew`).
-    pub fn tell<R: Wait>(&self, rt: &R, from: &mut Session, to: &mut Session)
-        requires from_its_own { IsSessionOf self.now from.old }
-        requires to_its_own { IsSessionOf self.now to.old }
-        ensures told { IsPrefix (seen_by from.old) (seen_by to.new) }
-        ensures to { IsSameBesideSeen to.old to.new }
-        ensures from { IsSameBesideSeen from.old from.new }
-    {
-        for _ in rt.forever() {
-            if let Ok(()) = self.try_tell(from, to, 1) {
-                return;
-            }
-            thread::yield_now();
-        }
-        unreachable!()
-    }
-
-    /// Tells session `to` what session `from` has seen, as `tell` does, and waits for nobody. It looks for each of the two sessions `tries`
-    /// times, at least once, and lets a renewal that has begun go first. The call takes no memory, and returns.
+    /// were made in. The call looks for each of the two sessions `tries` times, at least once, and lets a renewal that has begun go first.
+    /// It takes no memory, waits for nobody, and returns.
     ///
     /// The call refuses with `Busy`, if the map was renewed, or was about to be, at each look for one of them. Then `to` wasn't told. Both
     /// sessions are as they were, though they may have seen more.

@@ -15,14 +15,15 @@ use crate::slots::Current;
 use blink_batch::{Answer, Op};
 
 impl GrowingMap {
-    /// Runs an operation that changes the map, if it can be made at once. It answers as `change` does. The session isn't taken out of its
-    /// slot, so the call costs less than to hold the session, to start the operation and to release the session. It takes no memory, waits
-    /// for nobody, and returns.
+    /// Runs an operation that changes the map, if it can be made at once: an insertion, a deletion, a replacement, an exchange, or a
+    /// deletion of an expected pointer. It answers as the operation does on a plain map (`Op`, `Answer`), and no other session changes the
+    /// key between its test and its change. The session isn't taken out of its slot, so the call costs less than to hold the session, to
+    /// start the operation and to release the session. It takes no memory, waits for nobody, and returns.
     ///
     /// It looks for the session `tries` times, at least once, and lets a renewal that has begun go first. There is no answer, if the map
     /// was renewed, or was about to be, at each look; if the session lacks room for the operation in the current map; or if the operation
     /// met another one, and was given up after `tries` steps in vain, at least one. Then it has changed nothing, though the session may
-    /// have seen more. `change` makes it, or `start` by the held session.
+    /// have seen more. `start` makes it, by the held session.
     pub fn try_change(&self, session: &mut Session, op: Op, tries: u32) -> Option<Answer>
         requires its_own { IsSessionOf self.now session.old }
         requires updates { IsUpdate op }

@@ -12,8 +12,9 @@ use blink_live::Scanned;
 use std::alloc::Global;
 
 impl GrowingMap {
-    /// Looks up a key as `find` does, and waits for nobody. It looks for the session `tries` times, at least once, and lets a renewal
-    /// that has begun go first. The call takes no memory, and returns.
+    /// Looks up a key. It returns the key's pointer, or `None` if the key is absent, after the changes of all keys that the session has
+    /// seen by the end of the call, whatever maps they were made in. A session never un-sees a change. The call looks for the session
+    /// `tries` times, at least once, and lets a renewal that has begun go first. It takes no memory, waits for nobody, and returns.
     ///
     /// The call refuses with `Busy`, if the map was renewed, or was about to be, at each look. The session is as it was then.
     pub fn try_find(
@@ -36,9 +37,10 @@ impl GrowingMap {
         Ok(self.find_in_place(seat, *slot, key))
     }
 
-    /// Reports the entries whose keys are from `range.0` to `range.1`, both included, in ascending order, as `scan` does, and waits for
-    /// nobody. It looks for the session `tries` times, at least once, and lets a renewal that has begun go first. The call takes no
-    /// memory, and returns.
+    /// Reports the entries whose keys are from `range.0` to `range.1`, both included, in ascending order, as `Map::scan` of `blink_map`
+    /// does. What it says of a key is what the changes up to some time in the call leave of it, whatever maps they were made in. The call
+    /// looks for the session `tries` times, at least once, and lets a renewal that has begun go first. It takes no memory, waits for
+    /// nobody, and returns.
     ///
     /// The call refuses with `Busy`, if the map was renewed, or was about to be, at each look. The session and `into` are as they were
     /// then.
@@ -71,9 +73,10 @@ impl GrowingMap {
         Ok(self.scan_in_place(seat, *slot, lo, hi, into))
     }
 
-    /// Reports the entries whose keys are from `range.0` to `range.1`, both included, in descending order, as `scan_back` does, and waits
-    /// for nobody. It looks for the session `tries` times, at least once, and lets a renewal that has begun go first. The call takes no
-    /// memory, and returns.
+    /// Reports the entries whose keys are from `range.0` to `range.1`, both included, in descending order, as `Map::scan_back` of
+    /// `blink_map` does. What it says of a key is what the changes up to some time in the call leave of it, whatever maps they were made
+    /// in. The call looks for the session `tries` times, at least once, and lets a renewal that has begun go first. It takes no memory,
+    /// waits for nobody, and returns.
     ///
     /// The call refuses with `Busy`, if the map was renewed, or was about to be, at each look. The session and `into` are as they were
     /// then.
@@ -107,8 +110,11 @@ impl GrowingMap {
     }
 
     /// Returns the entries whose keys are from `range.0` to `range.1`, both included, in ascending order, as all of them were at one time
-    /// in the call, as `snapshot` does, and waits for nobody. It looks for the session `tries` times, at least once, and lets a renewal
-    /// that has begun go first. Then it tries the snapshot `tries` times: `None` if that failed each time. The call returns.
+    /// in the call, as `Map::snapshot` of `blink_map` does: they are what the changes that the session has seen afterwards leave of each
+    /// of these keys, whatever maps they were made in. The call looks for the session `tries` times, at least once, and lets a renewal
+    /// that has begun go first. Then it tries the snapshot `tries` times: `None` if some leaf of the range was changed each time. A
+    /// renewal waits for the call, which takes memory for the entries, and while it runs 16 bytes for each leaf. It waits for nobody, and
+    /// returns.
     ///
     /// The call refuses with `Busy`, if the map was renewed, or was about to be, at each look: the session is as it was then. It refuses
     /// with `OutOfMemory`, if memory was refused: nothing is changed, though the session may have seen more.

@@ -26,6 +26,3 @@ pub(crate) const GRACE: u32 = 1_000;
 
 // How often a snapshot of all keys is tried for the copy. Changes wait meanwhile, but for those of a call that was about to take its slot.
 pub(crate) const COPY_TRIES: u32 = 8;
-
-// How often a renewal after removals looks for a session. No answer depends on it.
-pub(crate) const WORN_LOOKS: u32 = 1_000;

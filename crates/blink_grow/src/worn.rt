@@ -1,12 +1,11 @@
 //! Renewing a growing map from which many entries were removed. Emptied leaves stay in the current map, and a scan, or a look for its first
 //! or last entry, passes them. No clause speaks of it: a renewal keeps what the other calls promise.
-ghost use Rattle.std.specs.Prelude.{◌<◌, ◌≤◌};
-ghost use Rattle.blink_grow.specs.Sessions.{IsSessionOf, places_of};
+ghost use Rattle.std.specs.Prelude.{◌≤◌};
+ghost use Rattle.blink_grow.specs.Sessions.{IsSessionOf};
 
 use crate::growing::{GrowingMap, Session};
 use crate::renew::Reason;
 use crate::room::numbers_over;
-use crate::waiting::WORN_LOOKS;
 use blink_batch::{Answer, Op};
 use blink_index::Index;
 use blink_map::Map;
@@ -34,31 +33,19 @@ pub(crate) struct FirstCounts {
 }
 
 impl GrowingMap {
-    /// Renews the map where many of its leaves are empty: if more entries were removed since it was opened or renewed last than are left,
-    /// with 1,024 more for each session that the map has room for (`open`), and if the map uses more than twice the pages that so many
-    /// need half full. Where keys come and go in no order, few leaves are emptied, so the map stays. A change does all this by itself. After
-    /// `start` and `advance` the caller does it, once the session is released. The call waits for nobody. It looks `looks` times for each
-    /// session that is in a call, or held. Where the map can't be renewed for now, or needn't be, it stays as it is, and the count begins
-    /// anew. So it is where the room is fixed.
+    /// Renews the map by this session (`try_renew_by`) where many of its leaves are empty: if more entries were removed since it was opened
+    /// or renewed last than are left, with 1,024 more for each session that the map has room for (`open`), and if the map uses more than
+    /// twice the pages that so many need half full. Where keys come and go in no order, few leaves are emptied, so the map stays. The
+    /// caller does it after removals, once the session is released. The session stays as it is. The call waits for nobody. It looks `looks`
+    /// times for each session that is in a call, or held. Where the map can't be renewed for now, or needn't be, it stays as it is, and the
+    /// count begins anew. So it is where the room is fixed.
     ///
-    /// So a look from the front, as `first`, passes a bounded number of emptied leaves: after each count the map uses at most four times
-    /// the pages that the entries left, and 1,024 for each session that the map has room for, would fill.
+    /// So a scan from the front passes a bounded number of emptied leaves: after each count the map uses at most four times the pages that
+    /// the entries left, and 1,024 for each session that the map has room for, would fill.
     ///
     /// What it costs is spread over the removals. A renewal copies the entries that are left, so no more than one for each removal.
-    pub fn renew_if_worn(&self, alloc: Global, looks: u32) {
-        self.renew_if_worn_at(alloc, 0, looks);
-    }
-
-    /// Does so by this session, as `try_renew_by`. The session stays as it is.
     pub fn renew_if_worn_by(&self, alloc: Global, session: &Session, looks: u32)
         requires its_own { IsSessionOf self.now session.now }
-    {
-        self.renew_if_worn_at(alloc, session.slot, looks);
-    }
-
-    // Does so by the session in this slot.
-    fn renew_if_worn_at(&self, alloc: Global, copier: usize, looks: u32)
-        requires in_range { copier < places_of self.now }
     {
         let removed = self.removed.load(Ordering::SeqCst);
         let had = self.had.load(Ordering::SeqCst);
@@ -71,7 +58,7 @@ impl GrowingMap {
         if begun.is_ok() {
             self.had
                 .store(had.saturating_sub(removed), Ordering::SeqCst);
-            let _outcome = self.renew_unless_busy(alloc, copier, Reason::Worn, looks);
+            let _outcome = self.renew_unless_busy(alloc, session.slot, Reason::Worn, looks);
         }
     }
 
@@ -80,17 +67,6 @@ impl GrowingMap {
         let (_rows, unused) = map.room();
         let used = self.numbers.load(Ordering::SeqCst).saturating_sub(unused);
         used.saturating_mul(u64::from(self.fan)) / 4 > self.had.load(Ordering::SeqCst)
-    }
-
-    // Counts the entry that an operation of the session in this slot has inserted or removed. After a removal the map is renewed where that
-    // is due.
-    pub(crate) fn count_and_renew(&self, alloc: Global, slot: usize, op: Op, answer: Answer)
-        requires in_range { slot < places_of self.now }
-    {
-        self.count(op, answer);
-        if let Answer::Removed(_) = answer {
-            self.renew_if_worn_at(alloc, slot, WORN_LOOKS);
-        }
     }
 
     // Counts the entry that an operation has inserted or removed.

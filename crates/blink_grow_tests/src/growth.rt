@@ -43,7 +43,7 @@ fn a_map_that_grows_answers_as_the_plain_map(rt: HostRuntime) {
         drawn = next(drawn);
         let op = operation(drawn);
         let expected = given(&rt, plain.apply(op));
-        map.call(&rt, alloc, op, expected);
+        map = map.call(&rt, alloc, op, expected);
     }
     let entries = given(&rt, map.close(&rt, alloc).entries(alloc));
     same(&rt, &entries.as_slice(), &plain.entries());
@@ -60,10 +60,10 @@ fn a_queue_goes_on_in_the_room_of_its_entries(rt: HostRuntime) {
     let alloc = rt.alloc();
     let mut map = given(&rt, Single::new(&rt, alloc));
     for key in 0..THROUGH {
-        map.call(&rt, alloc, Op::Insert(key, key ^ 5), Answer::Inserted);
+        map = map.call(&rt, alloc, Op::Insert(key, key ^ 5), Answer::Inserted);
         if key >= WAITING {
             let gone = key - WAITING;
-            map.call(&rt, alloc, Op::Delete(gone), Answer::Removed(gone ^ 5));
+            map = map.call(&rt, alloc, Op::Delete(gone), Answer::Removed(gone ^ 5));
         }
     }
     let index = map.close(&rt, alloc);
@@ -79,36 +79,37 @@ fn a_queue_goes_on_in_the_room_of_its_entries(rt: HostRuntime) {
 fn a_renewed_map_has_its_entries(rt: HostRuntime) {
     let alloc = rt.alloc();
     let mut map = given(&rt, Single::new(&rt, alloc));
-    map.call(&rt, alloc, Op::Insert(5, 50), Answer::Inserted);
-    same(&rt, &map.renew(&rt, alloc), &Ok(()));
-    map.call(&rt, alloc, Op::Find(5), Answer::Found(50));
-    map.call(&rt, alloc, Op::Insert(5, 60), Answer::Exists(50));
-    same(&rt, &map.renew(&rt, alloc), &Ok(()));
-    map.call(&rt, alloc, Op::Delete(5), Answer::Removed(50));
-    same(&rt, &map.renew(&rt, alloc), &Ok(()));
-    map.call(&rt, alloc, Op::Find(5), Answer::Absent);
+    map = map.call(&rt, alloc, Op::Insert(5, 50), Answer::Inserted);
+    same(&rt, &map.renew(alloc), &Ok(()));
+    map = map.call(&rt, alloc, Op::Find(5), Answer::Found(50));
+    map = map.call(&rt, alloc, Op::Insert(5, 60), Answer::Exists(50));
+    same(&rt, &map.renew(alloc), &Ok(()));
+    map = map.call(&rt, alloc, Op::Delete(5), Answer::Removed(50));
+    same(&rt, &map.renew(alloc), &Ok(()));
+    let _map = map.call(&rt, alloc, Op::Find(5), Answer::Absent);
 }
 
 // Inserts keys and deletes each at once. So the map has one page, and is never full.
-fn come_and_go<R: Wait + Abort>(rt: &R, alloc: Global, map: &mut Single, from: u64, to: u64) {
+fn come_and_go<R: Wait + Abort>(rt: &R, alloc: Global, map: Single, from: u64, to: u64) -> Single {
+    let mut map = map;
     for key in from..to {
-        map.call(rt, alloc, Op::Insert(key, 7), Answer::Inserted);
+        map = map.call(rt, alloc, Op::Insert(key, 7), Answer::Inserted);
         let delete = if key % 2 == 0 {
             Op::Delete(key)
         } else {
             Op::DeleteExact(key, 7)
         };
-        map.call(rt, alloc, delete, Answer::Removed(7));
+        map = map.call(rt, alloc, delete, Answer::Removed(7));
     }
+    map
 }
 
 // No leaf is emptied for good where keys come and go, so the map stays as it is.
 #[test]
 fn a_map_in_which_keys_come_and_go_stays(rt: HostRuntime) {
     let alloc = rt.alloc();
-    let mut map = given(&rt, Single::new(&rt, alloc));
-    come_and_go(&rt, alloc, &mut map, 0, 4_000);
-    let (_map, number) = map.number(&rt);
+    let map = given(&rt, Single::new(&rt, alloc));
+    let (_map, number) = come_and_go(&rt, alloc, map, 0, 4_000).number(&rt);
     same(&rt, &number, &0);
 }
 
@@ -124,11 +125,11 @@ fn a_map_is_renewed_after_many_removals(rt: HostRuntime) {
     let alloc = rt.alloc();
     let mut map = given(&rt, Single::new(&rt, alloc));
     for key in 0..MANY {
-        map.call(&rt, alloc, Op::Insert(key, 7), Answer::Inserted);
+        map = map.call(&rt, alloc, Op::Insert(key, 7), Answer::Inserted);
     }
     let (mut map, full) = map.number(&rt);
     for key in 0..REMOVED {
-        map.call(&rt, alloc, Op::Delete(key), Answer::Removed(7));
+        map = map.call(&rt, alloc, Op::Delete(key), Answer::Removed(7));
     }
     let (_map, number) = map.number(&rt);
     same(&rt, &number, &full.wrapping_add(1));
@@ -137,10 +138,10 @@ fn a_map_is_renewed_after_many_removals(rt: HostRuntime) {
 const SHORT: u64 = 100;
 
 // Takes the key out of the queue, and puts another one in.
-fn pass_on<R: Wait + Abort>(rt: &R, alloc: Global, map: &mut Single, key: u64) {
-    map.call(rt, alloc, Op::Delete(key), Answer::Removed(key ^ 5));
+fn pass_on<R: Wait + Abort>(rt: &R, alloc: Global, map: Single, key: u64) -> Single {
+    let map = map.call(rt, alloc, Op::Delete(key), Answer::Removed(key ^ 5));
     let last = key.wrapping_add(SHORT);
-    map.call(rt, alloc, Op::Insert(last, last ^ 5), Answer::Inserted);
+    map.call(rt, alloc, Op::Insert(last, last ^ 5), Answer::Inserted)
 }
 
 // A queue of a hundred entries, through ten thousand keys. For want of page numbers alone it would be renewed after each 4,000 or so, so
@@ -150,10 +151,10 @@ fn a_queue_is_renewed_before_its_front_has_many_empty_leaves(rt: HostRuntime) {
     let alloc = rt.alloc();
     let mut map = given(&rt, Single::new(&rt, alloc));
     for key in 0..SHORT {
-        map.call(&rt, alloc, Op::Insert(key, key ^ 5), Answer::Inserted);
+        map = map.call(&rt, alloc, Op::Insert(key, key ^ 5), Answer::Inserted);
     }
     for key in 0..10_000 {
-        pass_on(&rt, alloc, &mut map, key);
+        map = pass_on(&rt, alloc, map, key);
     }
     same(&rt, &map.first(&rt), &Some(10_000));
     let (map, number) = map.number(&rt);

@@ -4,7 +4,7 @@ ghost use Rattle.blink_batch.specs.{FitsWords};
 ghost use Rattle.blink_grow.specs.{IsHeldOf, IsSessionOf, IsUpdate, map_at};
 
 use crate::same::{given, same, same_for};
-use crate::shared::{Single, close, last};
+use crate::shared::{Single, close, hold, last};
 use blink_batch::{Answer, Entry, Op};
 use blink_grow::{GrowError, GrowingMap, Held, Places, Session, StoppedHeld};
 use std::alloc::Global;
@@ -30,11 +30,11 @@ impl HeldOne {
         let (map, mut sessions) = GrowingMap::new(alloc, 2).expect(rt, "no map");
         let mut other = last(rt, &map, &mut sessions);
         let one = last(rt, &map, &mut sessions);
-        let answer = map.change(rt, alloc, &mut other, Op::Insert(5, 50));
-        same(rt, &answer, &Ok(Answer::Inserted));
-        let answer = map.change(rt, alloc, &mut other, Op::Insert(9, 90));
-        same(rt, &answer, &Ok(Answer::Inserted));
-        let held = map.hold(rt, one);
+        let answer = map.try_change(&mut other, Op::Insert(5, 50), TRIES);
+        same(rt, &answer, &Some(Answer::Inserted));
+        let answer = map.try_change(&mut other, Op::Insert(9, 90), TRIES);
+        same(rt, &answer, &Some(Answer::Inserted));
+        let held = hold(rt, &map, one);
         HeldOne { map, held, other }
     }
 
@@ -99,10 +99,10 @@ fn operations_of_a_held_session_answer(rt: HostRuntime) {
         held,
         mut other,
     } = it;
-    same(&rt, &map.find(&rt, &mut other, 7), &Some(72));
+    same(&rt, &map.try_find(&mut other, 7, TRIES), &Ok(Some(72)));
     let mut session = map.release(held);
-    same(&rt, &map.find(&rt, &mut session, 9), &Some(90));
-    same(&rt, &map.find(&rt, &mut session, 5), &None);
+    same(&rt, &map.try_find(&mut session, 9, TRIES), &Ok(Some(90)));
+    same(&rt, &map.try_find(&mut session, 5, TRIES), &Ok(None));
 }
 
 #[test]
@@ -111,12 +111,12 @@ fn operations_are_made_where_the_session_is(rt: HostRuntime) {
     let Single { map, mut session } = given(&rt, Single::new(&rt, alloc));
     let answer = map.try_change(&mut session, Op::Insert(5, 50), TRIES);
     same(&rt, &answer, &Some(Answer::Inserted));
-    let mut held = map.hold(&rt, session);
+    let mut held = hold(&rt, &map, session);
     let answer = map.try_change_held(&mut held, Op::Replace(5, 51), TRIES);
     same(&rt, &answer, &Some(Answer::Replaced(50)));
     same(&rt, &map.find_held(&mut held, 5), &Some(51));
     let mut session = map.release(held);
-    same(&rt, &map.find(&rt, &mut session, 5), &Some(51));
+    same(&rt, &map.try_find(&mut session, 5, TRIES), &Ok(Some(51)));
 }
 
 #[test]
@@ -266,11 +266,15 @@ fn sessions_rest_at_places(rt: HostRuntime) {
     let mut one = resting.join(&rt);
     let other = resting.join(&rt);
     assert!(&rt; resting.places.join().is_none());
-    let answer = resting.map.change(&rt, alloc, &mut one, Op::Insert(3, 30));
-    same(&rt, &answer, &Ok(Answer::Inserted));
+    let answer = resting.map.try_change(&mut one, Op::Insert(3, 30), TRIES);
+    same(&rt, &answer, &Some(Answer::Inserted));
     resting.leave(one);
     let mut again = resting.join(&rt);
-    same(&rt, &resting.map.find(&rt, &mut again, 3), &Some(30));
+    same(
+        &rt,
+        &resting.map.try_find(&mut again, 3, TRIES),
+        &Ok(Some(30)),
+    );
     resting.leave(again);
     resting.leave(other);
     let (map, sessions) = resting.gather(alloc, &rt);

@@ -2,10 +2,6 @@
 #![tactic(auto)]
 
 #[cfg(test)]
-mod clients;
-#[cfg(test)]
-mod ends;
-#[cfg(test)]
 mod growth;
 #[cfg(test)]
 mod held;
@@ -19,6 +15,8 @@ mod renewals;
 mod room;
 #[cfg(test)]
 mod same;
+#[cfg(test)]
+mod scanning_back;
 #[cfg(test)]
 mod shared;
 #[cfg(test)]

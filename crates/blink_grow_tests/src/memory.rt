@@ -1,6 +1,6 @@
 //! Memory that is refused when a map opens, grows, is renewed and closes. `rt try --test --fail-alloc N` refuses the Nth request; without
 //! it none is.
-use crate::same::{given, same};
+use crate::same::same;
 use crate::shared::Single;
 use blink_batch::{Answer, Op};
 use blink_grow::GrowError;
@@ -18,10 +18,12 @@ fn refused_memory_loses_no_key(rt: HostRuntime) {
         return;
     };
     for key in 0..KEYS {
-        if let Err(refusal) = map.apply(&rt, alloc, Op::Insert(key, key)) {
+        let (then, outcome) = map.apply(&rt, alloc, Op::Insert(key, key));
+        map = then;
+        if let Err(refusal) = outcome {
             same(&rt, &refusal, &GrowError::OutOfMemory);
-            map.call(&rt, alloc, Op::Find(key), Answer::Absent);
-            map.call(&rt, alloc, Op::Insert(key, key), Answer::Inserted);
+            map = map.call(&rt, alloc, Op::Find(key), Answer::Absent);
+            map = map.call(&rt, alloc, Op::Insert(key, key), Answer::Inserted);
         }
     }
     let index = map.close(&rt, alloc);
@@ -34,11 +36,12 @@ fn refused_memory_loses_no_key(rt: HostRuntime) {
 // More keys than a page has, so that the index has several, and few enough for the room of the first map.
 const FEW_KEYS: u64 = 100;
 
-fn find_all<R: Wait + Abort>(rt: &R, alloc: Global, map: &mut Single) {
+fn find_all<R: Wait + Abort>(rt: &R, alloc: Global, map: Single) -> Single {
+    let mut map = map;
     for key in 0..FEW_KEYS {
-        map.call(rt, alloc, Op::Find(key), Answer::Found(key ^ 5));
+        map = map.call(rt, alloc, Op::Find(key), Answer::Found(key ^ 5));
     }
-    map.call(rt, alloc, Op::Find(FEW_KEYS), Answer::Absent);
+    map.call(rt, alloc, Op::Find(FEW_KEYS), Answer::Absent)
 }
 
 // A refused renewal leaves the map as it was, and is made again.
@@ -49,15 +52,15 @@ fn a_renewal_that_is_refused_memory_leaves_the_map_as_it_was(rt: HostRuntime) {
         return;
     };
     for key in 0..FEW_KEYS {
-        map.call(&rt, alloc, Op::Insert(key, key ^ 5), Answer::Inserted);
+        map = map.call(&rt, alloc, Op::Insert(key, key ^ 5), Answer::Inserted);
     }
-    if let Err(refusal) = map.renew(&rt, alloc) {
+    if let Err(refusal) = map.renew(alloc) {
         same(&rt, &refusal, &GrowError::OutOfMemory);
-        find_all(&rt, alloc, &mut map);
-        same(&rt, &map.renew(&rt, alloc), &Ok(()));
+        map = find_all(&rt, alloc, map);
+        same(&rt, &map.renew(alloc), &Ok(()));
     }
-    find_all(&rt, alloc, &mut map);
-    map.call(&rt, alloc, Op::Delete(7), Answer::Removed(7 ^ 5));
+    let map = find_all(&rt, alloc, map);
+    let map = map.call(&rt, alloc, Op::Delete(7), Answer::Removed(7 ^ 5));
     let index = map.close(&rt, alloc);
     same(&rt, &index.find(6), &Some(6 ^ 5));
     same(&rt, &index.find(7), &None);

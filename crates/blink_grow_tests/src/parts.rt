@@ -23,8 +23,8 @@ fn insert_by_each<R: Wait + Abort>(
     ensures its_own { All (IsSessionOf map.now) sessions.new.items }
 {
     for key in 0..keys {
-        let mut session = last(rt, map, sessions);
-        let answer = apply(rt, alloc, map, &mut session, Op::Insert(key, key ^ 5));
+        let session = last(rt, map, sessions);
+        let (_session, answer) = apply(rt, alloc, map, session, Op::Insert(key, key ^ 5));
         same_for(rt, &answer, &Ok(Answer::Inserted), &key);
     }
 }
@@ -43,7 +43,7 @@ fn a_map_with_few_places_has_room_for_all(rt: HostRuntime) {
     let alloc = rt.alloc();
     let (map, _sessions) = GrowingMap::new(alloc, 3).expect(&rt, "no map");
     same(&rt, &map.try_room(1), &Ok((1_920, 768)));
-    same(&rt, &map.renew(&rt, alloc), &Ok(()));
+    same(&rt, &map.try_renew(alloc, None, 1), &Ok(()));
     same(&rt, &map.try_room(1), &Ok((1_920, 768)));
 }
 
@@ -54,9 +54,9 @@ fn a_renewed_map_has_room_for_the_sessions_that_made_changes(rt: HostRuntime) {
     let alloc = rt.alloc();
     let (map, mut sessions) = GrowingMap::new(alloc, 256).expect(&rt, "no map");
     insert_by_each(&rt, alloc, &map, &mut sessions, 6);
-    same(&rt, &map.renew(&rt, alloc), &Ok(()));
+    same(&rt, &map.try_renew(alloc, None, 1), &Ok(()));
     same(&rt, &map.try_room(1), &Ok((4_480, 1_792)));
-    same(&rt, &map.renew(&rt, alloc), &Ok(()));
+    same(&rt, &map.try_renew(alloc, None, 1), &Ok(()));
     same(&rt, &map.try_room(1), &Ok((2_560, 1_024)));
 }
 

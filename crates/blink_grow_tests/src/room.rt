@@ -1,6 +1,6 @@
 //! A room that its user chooses for a map: one that stays fixed, and one for the first changes.
 use crate::same::{given, same, same_for};
-use crate::shared::Single;
+use crate::shared::{Single, hold};
 use blink_batch::{Answer, Op};
 use blink_grow::{GrowError, GrowingMap, Room};
 use blink_index::Index;
@@ -36,11 +36,13 @@ fn with_fixed_room(
 }
 
 // Inserts keys from 0 on, until the map is full, and returns how many went in.
-fn fill<R: Wait + Abort>(rt: &R, alloc: Global, map: &mut Single) -> u64 {
+fn fill<R: Wait + Abort>(rt: &R, alloc: Global, map: Single) -> (Single, u64) {
+    let mut map = map;
     for key in 0..2_000 {
-        let answer = map.apply(rt, alloc, Op::Insert(key, key ^ 5));
+        let (then, answer) = map.apply(rt, alloc, Op::Insert(key, key ^ 5));
+        map = then;
         if answer == Err(GrowError::Full) {
-            return key;
+            return (map, key);
         }
         same_for(rt, &answer, &Ok(Answer::Inserted), &key);
     }
@@ -52,16 +54,16 @@ fn fill<R: Wait + Abort>(rt: &R, alloc: Global, map: &mut Single) -> u64 {
 #[test]
 fn a_map_whose_room_is_fixed_is_full_and_goes_on(rt: HostRuntime) {
     let alloc = rt.alloc();
-    let mut map = given(&rt, with_fixed_room(&rt, alloc, 40, 400));
-    let count = fill(&rt, alloc, &mut map);
+    let map = given(&rt, with_fixed_room(&rt, alloc, 40, 400));
+    let (map, count) = fill(&rt, alloc, map);
     assert!(&rt; (200..1_312).contains(&count));
-    map.call(&rt, alloc, Op::Find(count), Answer::Absent);
-    map.call(&rt, alloc, Op::Find(7), Answer::Found(7 ^ 5));
-    map.call(&rt, alloc, Op::Replace(8, 80), Answer::Replaced(8 ^ 5));
-    map.call(&rt, alloc, Op::Exchange(8, 80, 81), Answer::Replaced(80));
-    map.call(&rt, alloc, Op::Delete(9), Answer::Removed(9 ^ 5));
+    let map = map.call(&rt, alloc, Op::Find(count), Answer::Absent);
+    let map = map.call(&rt, alloc, Op::Find(7), Answer::Found(7 ^ 5));
+    let map = map.call(&rt, alloc, Op::Replace(8, 80), Answer::Replaced(8 ^ 5));
+    let map = map.call(&rt, alloc, Op::Exchange(8, 80, 81), Answer::Replaced(80));
+    let map = map.call(&rt, alloc, Op::Delete(9), Answer::Removed(9 ^ 5));
     // a removal brings no page number back
-    let answer = map.apply(&rt, alloc, Op::Insert(9, 90));
+    let (map, answer) = map.apply(&rt, alloc, Op::Insert(9, 90));
     same(&rt, &answer, &Err(GrowError::Full));
     let (map, number) = map.number(&rt);
     same(&rt, &number, &0);
@@ -80,12 +82,11 @@ fn a_map_whose_room_is_fixed_is_full_and_goes_on(rt: HostRuntime) {
 #[test]
 fn a_map_whose_room_is_fixed_is_never_renewed(rt: HostRuntime) {
     let alloc = rt.alloc();
-    let mut map = given(&rt, with_fixed_room(&rt, alloc, 40, 400));
-    same(&rt, &map.renew(&rt, alloc), &Err(GrowError::Full));
-    let _count = fill(&rt, alloc, &mut map);
+    let map = given(&rt, with_fixed_room(&rt, alloc, 40, 400));
     let full = Err(GrowError::Full);
-    same(&rt, &map.renew(&rt, alloc), &full);
-    same(&rt, &map.map.try_renew(alloc, None, 2), &full);
+    same(&rt, &map.renew(alloc), &full);
+    let (map, _count) = fill(&rt, alloc, map);
+    same(&rt, &map.renew(alloc), &full);
     same(&rt, &map.map.try_renew(alloc, Some(0), 2), &full);
     same(&rt, &map.map.try_renew_at(alloc, 0, Some(1), 2), &full);
     let (map, number) = map.number(&rt);
@@ -97,20 +98,22 @@ fn a_map_whose_room_is_fixed_is_never_renewed(rt: HostRuntime) {
 // So many ascending keys fill 375 leaves with 16 entries each, beside 25 pages above them: one above each 16, and the root.
 const MANY: u64 = 6_000;
 
-fn insert_many<R: Wait + Abort>(rt: &R, alloc: Global, map: &mut Single) {
+fn insert_many<R: Wait + Abort>(rt: &R, alloc: Global, map: Single) -> Single {
+    let mut map = map;
     for key in 0..MANY {
-        map.call(rt, alloc, Op::Insert(key, 7), Answer::Inserted);
+        map = map.call(rt, alloc, Op::Insert(key, 7), Answer::Inserted);
     }
+    map
 }
 
 // A map that grows is renewed after so many removals.
 #[test]
 fn a_map_whose_room_is_fixed_stays_after_many_removals(rt: HostRuntime) {
     let alloc = rt.alloc();
-    let mut map = given(&rt, with_fixed_room(&rt, alloc, 500, 1_400));
-    insert_many(&rt, alloc, &mut map);
+    let map = given(&rt, with_fixed_room(&rt, alloc, 500, 1_400));
+    let mut map = insert_many(&rt, alloc, map);
     for key in 0..MANY {
-        map.call(&rt, alloc, Op::Delete(key), Answer::Removed(7));
+        map = map.call(&rt, alloc, Op::Delete(key), Answer::Removed(7));
     }
     map.renew_if_worn(alloc);
     let (_map, number) = map.number(&rt);
@@ -120,9 +123,8 @@ fn a_map_whose_room_is_fixed_stays_after_many_removals(rt: HostRuntime) {
 #[test]
 fn a_map_with_enough_room_is_not_renewed(rt: HostRuntime) {
     let alloc = rt.alloc();
-    let mut map = given(&rt, with_room(&rt, alloc, 500, 1_400));
-    insert_many(&rt, alloc, &mut map);
-    let (map, number) = map.number(&rt);
+    let map = given(&rt, with_room(&rt, alloc, 500, 1_400));
+    let (map, number) = insert_many(&rt, alloc, map).number(&rt);
     same(&rt, &number, &0);
     let index = map.close(&rt, alloc);
     same(&rt, &index.len(), &6_000);
@@ -132,9 +134,8 @@ fn a_map_with_enough_room_is_not_renewed(rt: HostRuntime) {
 #[test]
 fn a_map_with_too_little_room_grows(rt: HostRuntime) {
     let alloc = rt.alloc();
-    let mut map = given(&rt, with_room(&rt, alloc, 40, 400));
-    insert_many(&rt, alloc, &mut map);
-    same(&rt, &map.renew(&rt, alloc), &Ok(()));
+    let map = insert_many(&rt, alloc, given(&rt, with_room(&rt, alloc, 40, 400)));
+    same(&rt, &map.renew(alloc), &Ok(()));
     let (map, number) = map.number(&rt);
     assert!(&rt; number > 1);
     let index = map.close(&rt, alloc);
@@ -182,7 +183,7 @@ fn a_map_tells_what_its_pool_has(rt: HostRuntime) {
     let alloc = rt.alloc();
     let Single { map, session } = given(&rt, with_fixed_room(&rt, alloc, 40, 400));
     same(&rt, &map.try_room(0), &Ok((400, 40)));
-    let held = map.hold(&rt, session);
+    let held = hold(&rt, &map, session);
     same(&rt, &map.try_room(3), &Err(GrowError::Busy));
     let _session = map.release(held);
     same(&rt, &map.try_room(1), &Ok((400, 40)));

@@ -1,10 +1,10 @@
 //! A growing map and one session, whose calls have no condition: what is so of them is in the type.
-ghost use Rattle.std.specs.Prelude.{◌≡◌, ◌≢◌, All, IfOk};
+ghost use Rattle.std.specs.Prelude.{All, IfOk};
 ghost use Rattle.blink_batch.specs.{FitsWords};
-ghost use Rattle.blink_grow.specs.{IsHeldOf, IsPendingOf, IsSessionOf, IsUpdate, place_of, places_of};
+ghost use Rattle.blink_grow.specs.{IsHeldOf, IsPendingOf, IsSessionOf, IsUpdate};
 
-use crate::same::same_for;
-use blink_batch::{Answer, Op};
+use crate::same::{given, same_for};
+use blink_batch::{Answer, Entry, Op};
 use blink_grow::{GrowError, GrowingMap, Held, PendingHeld, Session, StoppedHeld};
 use blink_index::Index;
 use std::alloc::Global;
@@ -52,56 +52,30 @@ impl Single {
 
     // Runs the operation.
     pub(crate) fn apply<R: Wait>(
-        &mut self,
+        self,
         rt: &R,
         alloc: Global,
         op: Op,
-    ) -> Result<Answer, GrowError> {
+    ) -> (Single, Result<Answer, GrowError>) {
         let Single { map, session } = self;
-        apply(rt, alloc, map, session, op)
+        let (session, outcome) = apply(rt, alloc, &map, session, op);
+        (Single { map, session }, outcome)
     }
 
     // The operation gives this.
     pub(crate) fn call<R: Wait + Abort>(
-        &mut self,
+        self,
         rt: &R,
         alloc: Global,
         op: Op,
         expected: Answer,
-    ) {
-        let answer = self.apply(rt, alloc, op);
+    ) -> Single {
+        let (single, answer) = self.apply(rt, alloc, op);
         same_for(rt, &answer, &Ok(expected), &op);
+        single
     }
 
-    // Renews the map.
-    pub(crate) fn renew<R: Wait>(&self, rt: &R, alloc: Global) -> Result<(), GrowError> {
-        self.map.renew(rt, alloc)
-    }
-
-    // The number of the current map: how often there was a renewal.
-    pub(crate) fn number<R: Wait>(self, rt: &R) -> (Single, u64) {
-        let Single { map, session } = self;
-        let held = map.hold(rt, session);
-        let number = held.number();
-        let session = map.release(held);
-        (Single { map, session }, number)
-    }
-
-    // Renews the map where that is due after removals.
-    pub(crate) fn renew_if_worn(&self, alloc: Global) {
-        self.map.renew_if_worn(alloc, LOOKS);
-    }
-
-    // The least key.
-    pub(crate) fn first<R: Wait>(&mut self, rt: &R) -> Option<u64> {
-        let Single { map, session } = self;
-        match map.first(rt, session) {
-            Some(entry) => Some(entry.key),
-            None => None,
-        }
-    }
-
-    // The operation gives this, by calls that wait for nobody.
+    // The operation gives this, by the session while it is held.
     pub(crate) fn call_held<R: Wait + Abort>(
         self,
         rt: &R,
@@ -111,8 +85,38 @@ impl Single {
     ) -> Single {
         let Single { map, session } = self;
         let (session, answer) = apply_held(rt, alloc, &map, session, op);
-        same_for(rt, &answer, &expected, &op);
+        same_for(rt, &answer, &Ok(expected), &op);
         Single { map, session }
+    }
+
+    // Renews the map.
+    pub(crate) fn renew(&self, alloc: Global) -> Result<(), GrowError> {
+        self.map.try_renew(alloc, None, LOOKS)
+    }
+
+    // The number of the current map: how often there was a renewal.
+    pub(crate) fn number<R: Wait>(self, rt: &R) -> (Single, u64) {
+        let Single { map, session } = self;
+        let held = hold(rt, &map, session);
+        let number = held.number();
+        let session = map.release(held);
+        (Single { map, session }, number)
+    }
+
+    // Renews the map where that is due after removals.
+    pub(crate) fn renew_if_worn(&self, alloc: Global) {
+        self.map.renew_if_worn_by(alloc, &self.session, LOOKS);
+    }
+
+    // The least key.
+    pub(crate) fn first(&mut self, rt: &impl Abort) -> Option<u64> {
+        let Single { map, session } = self;
+        let mut into = [Entry { key: 0, pointer: 0 }];
+        let scanned = given(rt, map.try_scan(session, (0, u64::MAX), 1, &mut into));
+        if scanned.filled == 0 {
+            return None;
+        }
+        Some(into[0].key)
     }
 
     // Closes the map with the session; without it, if memory for the list is refused.
@@ -171,52 +175,143 @@ fn change_of(op: Op) -> Result<Op, u64>
     }
 }
 
-// Runs the operation by this session.
+// How often a renewal looks for a session that another thread has.
+const LOOKS: u32 = 1_000;
+
+// Runs the operation where the session lies, if it can be made there, and else while the session is held. After a removal the map is renewed
+// where that is due.
 pub(crate) fn apply<R: Wait>(
     rt: &R,
     alloc: Global,
     map: &GrowingMap,
-    session: &mut Session,
+    session: Session,
     op: Op,
-) -> Result<Answer, GrowError>
-    requires { IsSessionOf map.now session.old }
-    ensures { IsSessionOf map.now session.new }
+) -> (Session, Result<Answer, GrowError>)
+    requires { IsSessionOf map.now session }
+    ensures { IsSessionOf map.now result.0 }
 {
+    let mut session = session;
     match change_of(op) {
-        Ok(op) => map.change(rt, alloc, session, op),
-        Err(key) => Ok(op.answer(map.find(rt, session, key))),
+        Ok(op) => change(rt, alloc, map, session, op),
+        Err(key) => {
+            let found = find(rt, map, &mut session, key);
+            (session, Ok(op.answer(found)))
+        }
     }
 }
 
-// How often a renewal looks for a session that another thread holds.
-const LOOKS: u32 = 1_000;
+fn change<R: Wait>(
+    rt: &R,
+    alloc: Global,
+    map: &GrowingMap,
+    session: Session,
+    op: Op,
+) -> (Session, Result<Answer, GrowError>)
+    requires its_own { IsSessionOf map.now session }
+    requires updates { IsUpdate op }
+    requires fits { FitsWords op }
+    ensures { IsSessionOf map.now result.0 }
+{
+    let mut session = session;
+    let (session, outcome) = match map.try_change(&mut session, op, 1) {
+        Some(answer) => (session, Ok(answer)),
+        None => change_held(rt, alloc, map, session, op),
+    };
+    if let Ok(Answer::Removed(_)) = outcome {
+        map.renew_if_worn_by(alloc, &session, LOOKS);
+    }
+    (session, outcome)
+}
 
-// Runs the operation by calls that wait for nobody, which are made again until it has ended.
+// Looks the key up, once no renewal gathers the sessions.
+pub(crate) fn find<R: Wait>(
+    rt: &R,
+    map: &GrowingMap,
+    session: &mut Session,
+    key: u64,
+) -> Option<u64>
+    requires { IsSessionOf map.now session.old }
+    ensures { IsSessionOf map.now session.new }
+{
+    for _ in rt.forever() {
+        if let Ok(found) = map.try_find(session, key, 1) {
+            return found;
+        }
+        thread::yield_now();
+    }
+    unreachable!()
+}
+
+// Runs the operation while the session is held.
 pub(crate) fn apply_held<R: Wait>(
     rt: &R,
     alloc: Global,
     map: &GrowingMap,
     session: Session,
     op: Op,
-) -> (Session, Answer)
+) -> (Session, Result<Answer, GrowError>)
     requires { IsSessionOf map.now session }
     ensures { IsSessionOf map.now result.0 }
 {
-    let held = hold(rt, map, session);
     match change_of(op) {
-        Ok(op) => {
-            let (held, answer) = change_held(rt, alloc, map, held, op);
-            (map.release(held), answer)
-        }
+        Ok(op) => change_held(rt, alloc, map, session, op),
         Err(key) => {
-            let mut held = held;
+            let mut held = hold(rt, map, session);
             let answer = op.answer(map.find_held(&mut held, key));
-            (map.release(held), answer)
+            (map.release(held), Ok(answer))
         }
     }
 }
 
-fn hold<R: Wait>(rt: &R, map: &GrowingMap, session: Session) -> Held
+// Where the map is full, the session is released, and the map renewed. A refusal of that is the operation's, but `Busy`.
+fn change_held<R: Wait>(
+    rt: &R,
+    alloc: Global,
+    map: &GrowingMap,
+    session: Session,
+    op: Op,
+) -> (Session, Result<Answer, GrowError>)
+    requires its_own { IsSessionOf map.now session }
+    requires updates { IsUpdate op }
+    requires fits { FitsWords op }
+    ensures { IsSessionOf map.now result.0 }
+{
+    let mut session = session;
+    for _ in rt.forever() {
+        let held = hold(rt, map, session);
+        let number = held.number();
+        match start(rt, map, held, op) {
+            (held, Some(answer)) => return (map.release(held), Ok(answer)),
+            (held, None) => session = map.release(held),
+        }
+        if let Err(refusal) = map.try_renew_by(alloc, &session, Some(number), LOOKS) {
+            if refusal != GrowError::Busy {
+                return (session, Err(refusal));
+            }
+        }
+    }
+    unreachable!()
+}
+
+// The held session's operation, to its end; no answer, if the map is full.
+fn start<R: Wait>(rt: &R, map: &GrowingMap, held: Held, op: Op) -> (Held, Option<Answer>)
+    requires its_own { IsHeldOf map.now held }
+    requires updates { IsUpdate op }
+    requires fits { FitsWords op }
+    ensures { IsHeldOf map.now result.0 }
+{
+    match map.start(held, op, 1) {
+        Ok((held, answer)) => (held, Some(answer)),
+        Err(StoppedHeld::Waits(pending)) => {
+            let (held, answer) = to_end(rt, map, pending);
+            (held, Some(answer))
+        }
+        Err(StoppedHeld::Full(held)) => (held, None),
+    }
+}
+
+// Holds the session, once nobody renews the map.
+pub(crate) fn hold<R: Wait>(rt: &R, map: &GrowingMap, session: Session) -> Held
     requires { IsSessionOf map.now session }
     ensures { IsHeldOf map.now result }
 {
@@ -226,35 +321,7 @@ fn hold<R: Wait>(rt: &R, map: &GrowingMap, session: Session) -> Held
             Ok(held) => return held,
             Err(free) => session = free,
         }
-    }
-    unreachable!()
-}
-
-// Runs the operation by a held session. Where the map is full, the session is released for a renewal.
-fn change_held<R: Wait>(
-    rt: &R,
-    alloc: Global,
-    map: &GrowingMap,
-    held: Held,
-    op: Op,
-) -> (Held, Answer)
-    requires its_own { IsHeldOf map.now held }
-    requires updates { IsUpdate op }
-    requires fits { FitsWords op }
-    ensures { IsHeldOf map.now result.0 }
-{
-    let mut held = held;
-    for _ in rt.forever() {
-        let number = held.number();
-        match map.start(held, op, 1) {
-            Ok(ended) => return ended,
-            Err(StoppedHeld::Waits(pending)) => return to_end(rt, map, pending),
-            Err(StoppedHeld::Full(full)) => {
-                let session = map.release(full);
-                let _renewed = map.try_renew(alloc, Some(number), LOOKS);
-                held = hold(rt, map, session);
-            }
-        }
+        thread::yield_now();
     }
     unreachable!()
 }
@@ -278,8 +345,6 @@ fn to_end<R: Wait>(rt: &R, map: &GrowingMap, pending: PendingHeld) -> (Held, Ans
 pub(crate) fn two(rt: &impl Abort, alloc: Global) -> (GrowingMap, Session, Session)
     ensures ones { IsSessionOf result.0 result.1 }
     ensures others { IsSessionOf result.0 result.2 }
-    ensures apart { place_of result.1 ≢ place_of result.2 }
-    ensures no_third { places_of result.0 ≡ 2 }
 {
     let (map, mut sessions) = GrowingMap::new(alloc, 2).expect(rt, "no map");
     let other = sessions.pop().expect(rt, "no second session");

@@ -49,8 +49,8 @@ impl Four {
     }
 }
 
-// The thread's operation gives this; counted, if it doesn't. Half of the threads wait in their calls, and half hold their session for
-// each operation.
+// The thread's operation gives this; counted, if it doesn't. Half of the threads try it where their session lies, and half hold their
+// session for each operation.
 fn check<R: Wait>(
     rt: &R,
     alloc: Global,
@@ -63,14 +63,11 @@ fn check<R: Wait>(
     requires { IsSessionOf map.now session }
     ensures { IsSessionOf map.now result }
 {
-    let mut session = session;
     let (op, expected) = work;
-    let answer = if thread % 2 == 0 {
-        apply(rt, alloc, map, &mut session, op)
+    let (session, answer) = if thread % 2 == 0 {
+        apply(rt, alloc, map, session, op)
     } else {
-        let (released, answer) = apply_held(rt, alloc, map, session, op);
-        session = released;
-        Ok(answer)
+        apply_held(rt, alloc, map, session, op)
     };
     if answer != Ok(expected) {
         wrong.fetch_add(1, Ordering::SeqCst);

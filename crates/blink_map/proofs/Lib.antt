@@ -1,4 +1,3 @@
-mod PlacesKept
 mod PartsOfThePool
 mod ChangesOfMembers
 mod RoomOfMembers
@@ -8,12 +7,7 @@ mod OperationsStart
 mod OperationsAreGivenUp
 mod PendingsGoOn
 pub mod PendingsAreSent
-pub mod SettledMapsAreSent
-mod PackedPagesAreInOrder
 mod LooksOver
-mod AllSettled
 mod MembersDealt
 pub mod PutsAreChanges
-mod HostRests
-mod EndsOfReports
 pub mod Offered

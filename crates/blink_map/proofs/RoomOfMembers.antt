@@ -1,13 +1,12 @@
 -- What a member's room is enough for.
-use Rattle.std.proofs.Common.{◌≡◌, ℕ, ◌+◌, ◌≤◌, sym, subst, arith}
+use Rattle.std.proofs.Common.{◌≡◌, ◌+◌, ◌≤◌, sym, subst, arith}
 use Rattle.blink_batch.specs.declared.Op.{Op}
-use Rattle.blink_batch.specs.declared.Op.TheVariants.{Insert, Replace}
 use Rattle.blink_rows.specs.declared.span.Span.{Span}
 use Rattle.blink_live.specs.declared.view.View.{View}
 use Rattle.blink_live.specs.{CanBegin, HasRowsFor, free_in, pages_of, rows_of, rows_taken}
-use Rattle.blink_live.proofs.Offered.{enough_taken, less_space, taken_in_order}
+use Rattle.blink_live.proofs.Offered.{enough_taken, taken_in_order}
 use Rattle.blink_map.specs.declared.member.Member.{Member}
-use Rattle.blink_map.specs.Sessions.{HasRoom, HasRoomInAll}
+use Rattle.blink_map.specs.Sessions.{HasRoom}
 
 -- an operation that may need no more than the room can begin
 pub has_rows_for : (op : Op) (member : Member) (v : View) → v.rows ≡ member.rows → HasRoom op member → HasRowsFor op v.rows member.room.shelf
@@ -22,17 +21,3 @@ can_begin op member v rows pages works has = record {
   pages = subst (λ (s : Span). s.next + pages_of op ≤ s.stop) (sym pages) (let order = member.in_order.1 in let enough = has.enough_pages in omega (arith, order, enough));
   announced = λ common. works;
 }
-
--- a member that hasn't the room for a replacement hasn't that for an insertion
-pub short_of_more : (key pointer : ℕ) (member : Member) → ¬ HasRoom (Replace key pointer) member → ¬ HasRoom (Insert key pointer) member
-short_of_more key pointer member short has = short (record {
-  enough_rows = let enough = has.enough_rows in omega (arith, enough);
-  enough_pages = omega arith;
-  space = less_space member.room.shelf (rows_of (Insert key pointer)) (rows_of (Replace key pointer)) (omega arith) has.space;
-})
-
-pub short_of_more_in_all : (key pointer : ℕ) (member : Member) → ¬ HasRoomInAll (Replace key pointer) member → ¬ HasRoomInAll (Insert key pointer) member
-short_of_more_in_all key pointer member short has = short (record {
-  enough_rows = let enough = has.enough_rows in omega (arith, enough);
-  enough_pages = omega arith;
-})

@@ -3,51 +3,29 @@
 -- the operations that change a map
 pub use Rattle.blink_machine.specs.{IsUpdate}
 -- a map and its sessions
-pub use Rattle.blink_map.specs.Sessions.{AnswersAsSeen, HasRoom, IsAnswered, IsOpenedWith, IsTooLarge, IsSameBesideRoom, IsSameBesideSeen, IsSameSession, IsSessionOf, LacksRoom, LacksRoomInAll, counts_of, made_by, opening_of, place_of, places_of, seen_by}
+pub use Rattle.blink_map.specs.Sessions.{AnswersAsSeen, HasRoom, IsAnswered, IsOpenedWith, IsTooLarge, IsSameBesideRoom, IsSameBesideSeen, IsSameSession, IsSessionOf, LacksRoom, LacksRoomInAll, made_by, opening_of, place_of, places_of, seen_by}
 -- how a map opens: each session is the first of its place
 pub use Rattle.blink_map.specs.Opening.{AreFirstSessions, IsFirstAt}
--- the places where sessions rest
-pub use Rattle.blink_map.specs.Joining.{map_at}
--- what a session had seen
-pub use Rattle.blink_map.specs.Receipts.{IsReceiptFor, IsReceiptOf, made_in, place_in, seen_in}
--- how a map is settled and closed
-pub use Rattle.blink_map.specs.Closing.{IsClosedWith, IsListOf, IsSettledWith}
-pub use Rattle.blink_map.specs.Common.{AreEntriesAfter, IsAfter}
-pub use Rattle.blink_map.specs.Unclosed.{IsUnclosed, IsUnsettled}
-pub use Rattle.blink_map.specs.Rebuilding.{AreEntriesOf, IsRebuildFault}
 -- an operation under way: which one it is, and the session before it
 pub use Rattle.blink_map.specs.Pendings.{GoesOn, HasBegun, IsPendingOf, op_of, session_of}
 -- an operation that hasn't ended at once
 pub use Rattle.blink_map.specs.Starting.{HasStopped}
 -- what a refused operation makes of its session, and an entry that is put
-pub use Rattle.blink_map.specs.Putting.{HasTried, IsPut, IsUnchangedBy, LacksKeyOf, WasAbsent, change_to}
--- the first and the last entry of a range
-pub use Rattle.blink_map.specs.Ends.{IsFirstFrom, IsLastTo}
+pub use Rattle.blink_map.specs.Putting.{HasTried, IsUnchangedBy, LacksKeyOf, WasAbsent, change_to}
 -- what a session has of rows and page numbers
 pub use Rattle.blink_map.specs.Stocks.{stock_of}
--- the code of each refusal
-pub use Rattle.blink_map.specs.Codes.{code_of}
 -- ---- for proofs above
 pub use Rattle.blink_map.specs.Sessions.{AnswersInOrder, IsSameMember}
 -- ---- files that no crate above names
-pub mod Codes
 pub mod Common
-pub mod Hosting
 pub mod Finding
 pub mod Changing
 pub mod Pendings
 pub mod Telling
-pub mod Closing
-pub mod Unclosed
-pub mod Rebuilding
 pub mod Drawing
-pub mod Ends
 pub mod Opening
 pub mod Putting
 pub mod Places
-pub mod Resting
-pub mod Joining
-pub mod Receipts
 pub mod Sessions
 pub mod Starting
 pub mod Stocks

@@ -1,5 +1,5 @@
--- What a refused operation makes of its session, and what a put does.
-use Rattle.std.specs.Prelude.{◌≡◌, ℕ, Option, Some, None, List, [], ◌∷◌, ◌++◌, ⊤}
+-- What a refused operation makes of its session, and the change that a put makes.
+use Rattle.std.specs.Prelude.{◌≡◌, ℕ, Some, None, List, ⊤}
 use mathlib.Core.List.{IsPrefix}
 use Rattle.blink_batch.specs.declared.Op.{Op}
 use Rattle.blink_batch.specs.declared.Op.TheVariants.{Insert}
@@ -8,7 +8,7 @@ use Rattle.blink_live.specs.declared.view.Change.{Change}
 use Rattle.blink_live.specs.{after}
 use Rattle.blink_map.specs.declared.map.Map.{Map}
 use Rattle.blink_map.specs.declared.map.Session.{Session}
-use Rattle.blink_map.specs.Sessions.{IsSameBesideRoom, IsSameMember, made_by, opening_of, place_of, seen_by}
+use Rattle.blink_map.specs.Sessions.{IsSameBesideRoom, IsSameMember, made_by, opening_of, seen_by}
 
 -- the session has made no change, and may have seen more
 pub record HasTried (old new : Session) : Type 0 where
@@ -38,13 +38,3 @@ LacksKeyOf map op old new = ⊤
 -- a change at a place by which the key has the pointer
 abbrev pub change_to : ℕ → ℕ → ℕ → Change
 change_to author key pointer = record { author = author; key = key; pointer = Some pointer }
-
--- there is a list of changes that goes on from all that the session had seen; `was` is what they left of the key. The session's
--- change follows the list at once: the key has the pointer. The session has made this change and no other
-pub record IsPut (map : Map) (key pointer : ℕ) (old new : Session) (was : Option ℕ) : Type 0 where
-  pub before : List Change
-  pub saw : IsPrefix (seen_by old) before
-  pub was_there : was ≡ after (pointer_of (opening_of map)) before key
-  pub goes_on : IsPrefix (before ++ change_to (place_of old) key pointer ∷ []) (seen_by new)
-  pub made : made_by new ≡ made_by old ++ change_to (place_of old) key pointer ∷ []
-  pub same_member : IsSameMember old.member new.member

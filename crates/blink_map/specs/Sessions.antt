@@ -7,11 +7,10 @@ use Rattle.blink_batch.specs.declared.Op.{Op}
 use Rattle.blink_batch.specs.{answer_at, key_of, pointer_of}
 use Rattle.blink_index.specs.{map_of}
 use Rattle.blink_page.specs.declared.limits.TheConstants.{MAX_PAGE}
-use Rattle.blink_rows.specs.{PlainCounts}
 use Rattle.blink_store.specs.{PlainStore}
 use Rattle.blink_live.specs.declared.live.Live.{Live}
 use Rattle.blink_live.specs.declared.view.Change.{Change}
-use Rattle.blink_live.specs.{HasSpaceFor, after, changes_made, counts_of as counts_of_table, free_in, length_of, opening_of as opening_of_table, pages_of, rows_of, rows_on}
+use Rattle.blink_live.specs.{HasSpaceFor, after, changes_made, free_in, length_of, opening_of as opening_of_table, pages_of, rows_of, rows_on}
 use Rattle.blink_map.specs.declared.map.Map.{Map}
 use Rattle.blink_map.specs.declared.map.Room.{Room}
 use Rattle.blink_map.specs.declared.map.Session.{Session}
@@ -21,10 +20,6 @@ use Rattle.blink_map.specs.Places.{IsMemberOf}
 -- the entries that the map was opened with
 abbrev pub opening_of : Map → List Entry
 opening_of map = opening_of_table map.live
-
--- the number of page numbers and rows of its table
-abbrev pub counts_of : Map → PlainCounts
-counts_of map = counts_of_table map.live
 
 -- the number of places for sessions
 abbrev pub places_of : Map → ℕ

@@ -1,86 +1,30 @@
-//! The operations that change a map, by any session, at any key.
-ghost use Rattle.std.specs.Prelude.{◌≡◌, ◌↔◌, ◌+◌, ◌-◌, ◌<◌, ◌≤◌, None, Some, IfOk, IfSome, IsNone, IsTrue, OnErr};
-ghost use Rattle.blink_batch.specs.{FitsWords};
-ghost use Rattle.blink_batch.specs.declared.Op.{Op};
-ghost use Rattle.blink_machine.specs.{IsUpdate};
-ghost use Rattle.blink_live.specs.declared.descent.Changed.{Changed};
-ghost use Rattle.blink_live.specs.{CanGiveBack, HasSameNumber, HasSpaceFor, IsPassSeat, IsWaiting, KnowsAuthors, free_in, gives_back, is_busy, length_of, pages_of, rows_of, rows_on, rows_taken, span, spare_on};
+//! What an operation that changes a map may use: rows and page numbers of its session, which draws them, and takes back what is left.
+ghost use Rattle.std.specs.Prelude.{◌≡◌, ◌↔◌, ◌+◌, ◌-◌, ◌<◌, ◌≤◌, None, Some, IfSome, IsNone, IsTrue};
+ghost use Rattle.blink_live.specs.{CanGiveBack, HasSameNumber, HasSpaceFor, IsPassSeat, KnowsAuthors, free_in, gives_back, is_busy, length_of, pages_of, rows_of, rows_on, rows_taken, span, spare_on};
 ghost use Rattle.blink_map.specs.Drawing.{KeepsNumbers};
 ghost use Rattle.blink_map.specs.declared.map.Session.{Session};
-ghost use Rattle.blink_map.specs.declared.member.Member.{Member};
-ghost use Rattle.blink_map.specs.Changing.{HasChanged, HasComeOut, HasDrawn, HasSetOut};
+ghost use Rattle.blink_map.specs.Changing.{HasDrawn};
 ghost use Rattle.blink_map.specs.Places.{IsMemberOf};
 ghost use Rattle.blink_map.specs.Putting.{IsUnchangedBy, LacksKeyOf};
-ghost use Rattle.blink_map.specs.Sessions.{HasRoom, HasRoomInAll, IsAnswered, IsSameBesideRoom, IsSessionOf, LacksRoom, LacksRoomInAll};
+ghost use Rattle.blink_map.specs.Sessions.{HasRoom, HasRoomInAll, IsAnswered, IsSameBesideRoom, IsSessionOf, LacksRoom};
 
-use crate::error::Full;
 use crate::map::{Map, Session};
-use crate::member::{Member, REST, next_mark};
+use crate::member::Member;
 use crate::pool::{draw_pages, draw_rows};
 use crate::recycle::{free_rows, recycle};
 use crate::steps::{give_back, mark_place};
-use crate::waiting::{BATCH_ROWS, LOOKS, PAGE_CHUNK, ROW_CHUNK, SPINS};
+use crate::waiting::{LOOKS, PAGE_CHUNK, ROW_CHUNK};
 use atomic_table::Seat;
 use blink_batch::{Answer, Op};
-use blink_live::{Changed, Live, Room, Shelf, View};
-use blink_machine::Resting;
+use blink_live::{Live, Room, Shelf, View};
 use blink_page::MAX_NEW_PAGES_PER_INSERT;
 use blink_rows::{MAX_ROWS_PER_INSERT, Span};
-use std::sync::Wait;
-use std::{hint, thread};
+use std::hint;
 
 // What each session puts into the latch words of pages.
 const LATCH: u64 = 1;
 
 impl Map {
-    /// Runs an operation that changes the map: an insertion, a deletion, a replacement, an exchange, or a deletion of an expected
-    /// pointer. It answers as the operation does on a plain map (`Op`, `Answer`), and no other session changes the key between its test
-    /// and its change. The call takes no memory. It waits for a page's latch that another session has, for a new root that another
-    /// session is about to make, and, where the session is short of rows and the pool too, for those that its changes have taken out and
-    /// other sessions may still read.
-    ///
-    /// The call is refused if the session has fewer rows in all than the operation may need, those that are on their way back too, or
-    /// fewer page numbers, and the pool can't give them: an insertion may need 44 rows and 22 page numbers, each other operation a row.
-    /// Then it changes nothing, but for what the session has drawn. The shortage lasts: no row or page number comes back to the session
-    /// later. An insertion is refused only if its key is absent, which it looks up then; so the session may have seen more.
-    pub fn change<R: Wait>(&self, rt: &R, session: &mut Session, op: Op) -> Result<Answer, Full>
-        requires its_own { IsSessionOf self.now session.old }
-        requires updates { IsUpdate op }
-        requires fits { FitsWords op }
-        ensures answered { IfOk result (IsAnswered self.now op session.old session.new) }
-        ensures full { OnErr result (LacksRoom op session.old session.new) }
-        ensures in_all { OnErr result (LacksRoomInAll op session.new) }
-        ensures absent { OnErr result (LacksKeyOf self.now op session.old session.new) }
-        ensures unchanged { OnErr result (IsUnchangedBy op session.old session.new) }
-    {
-        match self.run(rt, session, op) {
-            Ok(answer) => Ok(answer),
-            Err(full) => match self.answer_with_no_room(session, op) {
-                Some(answer) => Ok(answer),
-                None => Err(full),
-            },
-        }
-    }
-
-    // Runs an operation that changes the tree.
-    fn run<R: Wait>(&self, rt: &R, session: &mut Session, op: Op) -> Result<Answer, Full>
-        requires its_own { IsSessionOf self.now session.old }
-        requires updates { IsUpdate op }
-        requires fits { FitsWords op }
-        ensures answered { IfOk result (IsAnswered self.now op session.old session.new) }
-        ensures full { OnErr result (LacksRoom op session.old session.new) }
-        ensures in_all { OnErr result (LacksRoomInAll op session.new) }
-        ensures unchanged { OnErr result (IsSameBesideRoom session.old session.new) }
-    {
-        let Session { member } = session;
-        if !member.wait_for_room(rt, &self.live, op) {
-            return Err(Full);
-        }
-        let answer = member.change(rt, &self.live, op);
-        member.recycle(&self.live, BATCH_ROWS);
-        Ok(answer)
-    }
-
     // The answer of an operation that its session lacks room for, since it was `before`: an insertion has one, if its key is there.
     pub(crate) fn answer_with_no_room(&self, session: &mut Session, op: Op) -> Option<Answer>
         requires its_own { IsSessionOf self.now session.old }
@@ -90,7 +34,6 @@ impl Map {
             → LacksKeyOf self.now op before session.new × IsUnchangedBy op before session.new }
         ensures full { (before : Session) → LacksRoom op before session.old
             → LacksRoom op before session.new }
-        ensures in_all { LacksRoomInAll op session.old → LacksRoomInAll op session.new }
     {
         match op {
             Op::Insert(key, _pointer) => match self.find(session, key) {
@@ -103,27 +46,6 @@ impl Map {
 }
 
 impl Member {
-    // Waits until the member has the room that the operation may need, and returns whether it has. It waits only for rows that the
-    // member has taken out and that come back, and while it does its place isn't marked.
-    fn wait_for_room<R: Wait>(&mut self, rt: &R, live: &Live, op: Op) -> bool
-        requires its_own { IsMemberOf live.now self.old }
-        ensures drawn { HasDrawn (rows_of op) (pages_of op) self.old self.new }
-        ensures enough { IsTrue result → HasRoom op self.new }
-        ensures lacks { ¬ IsTrue result → (¬ HasRoom op self.old) × (¬ HasRoom op self.new) }
-        ensures in_all { ¬ IsTrue result → ¬ HasRoomInAll op self.new }
-    {
-        for _ in rt.forever() {
-            if self.draw(live, op) {
-                return true;
-            }
-            if !self.will_have_room(op) {
-                return false;
-            }
-            thread::yield_now();
-        }
-        unreachable!()
-    }
-
     // Where the member hasn't the room that the operation may need, it takes back the rows that have come back, and draws from the
     // pool what it still lacks. Returns whether it has the room then.
     pub(crate) fn draw(&mut self, live: &Live, op: Op) -> bool
@@ -260,39 +182,6 @@ impl Member {
         let (rows, pages) = needed_by(op);
         lacking_on(&self.room.shelf, rows) <= self.rows.len() && pages <= self.pages.len()
     }
-
-    // Runs an operation that changes the tree. While it does, the member's place is marked. What it hasn't used of its rows and
-    // page numbers is the member's again.
-    fn change<R: Wait>(&mut self, rt: &R, live: &Live, op: Op) -> Answer
-        requires its_own { IsMemberOf live.now self.old }
-        requires updates { IsUpdate op }
-        requires fits { FitsWords op }
-        requires room { HasRoom op self.old }
-        ensures { HasChanged live.now op self.old self.new result }
-    {
-        let Member {
-            seat,
-            rows,
-            pages,
-            place,
-            room,
-            mark,
-        } = self;
-        mark_place(live, seat, *place, next_mark(mark));
-        aim(room, op, rows, pages);
-        let changed = live.change_by(seat, room, op, SPINS);
-        let running = Running {
-            seat,
-            live,
-            place: *place,
-            mark,
-        };
-        let answer = running.end_of(rt, changed, room);
-        come_back(live, seat, *place);
-        rows.next = room.rows.next;
-        pages.next = room.pages.next;
-        answer
-    }
 }
 
 // The number of the shelf's free rows.
@@ -385,66 +274,6 @@ pub(crate) fn aim(room: &mut Room, op: Op, rows: &Span, pages: &Span)
         stop: pages.next + page_count,
     };
     room.latch_number = LATCH;
-}
-
-// The part of a member that runs an operation to its end, with the tree's table. In the clauses below `self.exit.0` is the reference
-// to the seat.
-#[derive(Drop)]
-struct Running<'a> {
-    seat: &'a mut Seat<u8, View>,
-    live: &'a Live,
-    place: u64,
-    mark: &'a mut u64,
-}
-
-impl Running<'_> {
-    // The answer of an operation, which goes on to its end where it rests.
-    fn end_of<R: Wait>(self, rt: &R, changed: Changed, room: &mut Room) -> Answer
-        requires came { (op : Op) × (old : Member) × IsMemberOf self.live.now old
-            × HasComeOut self.live.now op old self.seat.now room.old changed
-            × (self.place ≡ old.place) }
-        ensures { (op : Op) (old : Member)
-            → HasComeOut self.entry.live.now op old self.entry.seat.now room.old changed
-            → HasComeOut self.entry.live.now op old self.exit.0.now room.new (Changed.Ended result) }
-    {
-        match changed {
-            Changed::Ended(answer) => answer,
-            Changed::Rests(resting) => self.to_end(rt, &resting, room),
-        }
-    }
-
-    // Takes steps of an operation that rests until it has ended, and returns its answer. The operation rests between its tries. The
-    // function is out of line, so that only an operation that waits clears room for a machine.
-    #[cold]
-    #[inline(never)]
-    fn to_end<R: Wait>(self, rt: &R, resting: &Resting, room: &mut Room) -> Answer
-        requires set_out { (op : Op) × (old : Member) × IsMemberOf self.live.now old
-            × HasSetOut self.live.now op old self.seat.now resting.now room.old
-            × (self.place ≡ old.place) }
-        requires waits { IsWaiting resting.now }
-        ensures { (op : Op) (old : Member)
-            → HasSetOut self.entry.live.now op old self.entry.seat.now resting.now room.old
-            → HasComeOut self.entry.live.now op old self.exit.0.now room.new (Changed.Ended result) }
-    {
-        let Running {
-            seat,
-            live,
-            place,
-            mark,
-        } = self;
-        let mut rested = live.resume(seat, room, resting, 1);
-        for _ in rt.forever() {
-            let resting = match rested {
-                Changed::Ended(answer) => return answer,
-                Changed::Rests(resting) => resting,
-            };
-            mark_place(live, seat, place, REST);
-            thread::yield_now();
-            mark_place(live, seat, place, next_mark(mark));
-            rested = live.resume(seat, room, &resting, 1);
-        }
-        unreachable!()
-    }
 }
 
 // The seat takes back what its operation, which has ended, hasn't used of its rows and page numbers. Its place is idle again.

@@ -1,23 +1,15 @@
-//! The table of a map, whose keys any seat changes: how it opens, and how it closes.
-ghost use Rattle.std.specs.Prelude.{◌≡◌, ◌+◌, ◌<◌, ◌≤◌, ◌++◌, ◌∷◌, ◌*◌, ℕ, List, IfOk, IsTrue, drop, length, replicate, set, slice_index};
-ghost use Rattle.std.specs.Mem.Slots.{slots_items, slots_len, IsFull};
-ghost use mathlib.Core.List.{IsPrefix};
+//! The table of a map, whose keys any seat changes: how it opens.
+ghost use Rattle.std.specs.Prelude.{◌≡◌, ◌+◌, ◌<◌, ◌≤◌, ◌++◌, ◌*◌, ℕ, List, IfOk, drop, length, replicate, set};
 ghost use Rattle.blink_page.specs.declared.limits.TheConstants.{MAX_PAGE};
-ghost use Rattle.blink_map.specs.Common.{HasAllChanges, IsOpenedCommon, IsHost};
-ghost use Rattle.blink_map.specs.Receipts.{seen_in};
-ghost use Rattle.blink_live.specs.{HasSameNumber, IsIdleIn, IsLaid, IsPassSeat, account_of, place_word, plan_of, pool_page, pool_row, takes_account, word_count};
-ghost use Rattle.blink_live.specs.declared.view.Role.TheVariants.{Pass};
+ghost use Rattle.blink_map.specs.Common.{IsOpenedCommon};
+ghost use Rattle.blink_live.specs.{IsLaid, pool_page, pool_row, word_count};
 
-use crate::map::Receipt;
-use crate::settled::Settled;
-use crate::steps::{hear, host_looks_up};
-use atomic_table::{Closed, Seat, Table};
+use atomic_table::{Seat, Table};
 use blink_index::Index;
-use blink_live::{InvariantOfTree, Live, Opened, Planned, TakeAccount, View, lay_tree, word_count};
+use blink_live::{InvariantOfTree, Live, Opened, View, lay_tree, word_count};
 use blink_rows::Counts;
 use blink_store::Store;
 use std::alloc::{AllocError, Global};
-use std::marker::Brand;
 use std::snapshot::Snapshot;
 
 /// The number of words in the line of a place, as many as in a line of the processor's cache.
@@ -68,69 +60,6 @@ pub(crate) fn open_common(
         places,
     };
     Ok((live, seat))
-}
-
-/// The host's seat takes the account of a session's seat, and has then seen all that the session has seen.
-pub(crate) fn settle_with(live: &Live, host: &mut Seat<u8, View>, seat: Seat<u8, View>)
-    requires host { IsHost live.now host.old }
-    requires seat { IsPassSeat live.now seat.table_id seat.me }
-    requires idle { IsIdleIn Pass seat.me }
-    ensures host { IsHost live.now host.new }
-    ensures saw { IsPrefix host.old.me.0.seen host.new.me.0.seen }
-    ensures heard { IsPrefix seat.me.0.seen host.new.me.0.seen }
-    ensures taken { host.new.me.0.accounts ≡ account_of seat.me.0 ∷ host.old.me.0.accounts }
-{
-    take_account::<Brand>(live, host, seat);
-    host_looks_up(live, host);
-}
-
-// The host's seat takes the account of a session's seat, and is told what the session has seen.
-fn take_account<B: Planned>(live: &Live, host: &mut Seat<u8, View>, seat: Seat<u8, View>)
-    requires host { IsHost live.now host.old }
-    requires picked { B.plan ≡ plan_of live.now.table.shared.key }
-    requires seat { IsPassSeat live.now seat.table_id seat.me }
-    requires idle { IsIdleIn Pass seat.me }
-    ensures same { HasSameNumber host.old host.new }
-    ensures taken { host.new.me ≡ (takes_account host.old.me.0 seat.me.0, host.old.me.1) }
-{
-    live.table.shared.join_seat::<TakeAccount<B>>(host, seat);
-}
-
-/// The host's seat has heard then all that is in the receipt.
-pub(crate) fn hear_receipt(live: &Live, host: &mut Seat<u8, View>, receipt: Receipt)
-    requires host { IsHost live.now host.old }
-    requires its_own { receipt.note.table_id ≡ live.now.table.shared.table_id }
-    ensures host { IsHost live.now host.new }
-    ensures saw { IsPrefix host.old.me.0.seen host.new.me.0.seen }
-    ensures heard { IsPrefix (seen_in receipt) host.new.me.0.seen }
-    ensures same_accounts { host.new.me.0.accounts ≡ host.old.me.0.accounts }
-{
-    let Receipt { note, place: _ } = receipt;
-    hear::<Brand>(live, host, note);
-    host_looks_up(live, host);
-}
-
-/// Closes a common table. It has one list of changes for good, which goes on from all that the host's seat has seen. Each change was
-/// made at one of the places, and of each account that the host has taken the list has exactly the changes.
-pub(crate) fn settle_common(live: Live, seat: Seat<u8, View>) -> Settled
-    requires host { IsHost live seat }
-    ensures changes { HasAllChanges live seat result }
-    ensures fan { result.fan ≡ live.fan }
-    ensures counts { result.counts ≡ live.counts }
-{
-    let Live {
-        table,
-        counts,
-        fan,
-        places,
-    } = live;
-    let closed = table.close_with(seat);
-    Settled {
-        closed,
-        counts,
-        places,
-        fan,
-    }
 }
 
 // The counts of a table over this many pages, of such an extent.
@@ -196,20 +125,4 @@ fn lay_front(words: &mut [u64], counts: &Counts, store: &Store)
 {
     let front = word_count(counts);
     lay_tree(&mut words[..front], counts, store);
-}
-
-/// Whether the word of each place is 0.
-pub(crate) fn are_idle(closed: &Closed<u8, Global>, counts: &Counts, places: u64) -> bool
-    requires full { IsFull closed.now.words }
-    requires width { slots_len closed.now.words ≡ word_count counts.now + 8 * places }
-    ensures { IsTrue result → (place : ℕ) → place < places
-        → slice_index (slots_items closed.now.words) (place_word counts.now place) ≡ 0 }
-{
-    let start = word_count(counts);
-    for place in 0..places {
-        if closed.word(start + PLACE_WORDS * place as usize) != 0 {
-            return false;
-        }
-    }
-    true
 }

@@ -1,14 +1,9 @@
 //! The types of a map: `Map` holds the tree, and with a `Session` a thread reads and changes any key. A `Pending` is a session's
 //! operation under way.
-ghost use Rattle.std.specs.Prelude.{◌≡◌, ◌<◌, ◌≤◌, []};
-ghost use Rattle.blink_live.specs.declared.view.Role.TheVariants.{Spent};
-ghost use Rattle.blink_live.specs.{IsIdleIn};
+ghost use Rattle.std.specs.Prelude.{◌≤◌};
 
 use crate::member::{Member, UnderWay};
-use crate::rest::{RuleOfHost, Stand, Visitor};
-use atomic_table::{Seat, Table};
-use blink_live::{Live, View};
-use std::alloc::Global;
+use blink_live::Live;
 use std::snapshot::Snapshot;
 
 /// What a map has beside its entries: page numbers and rows for the changes to come, and places for sessions.
@@ -30,14 +25,11 @@ pub struct Room {
 #[derive(Drop)]
 pub struct Map {
     pub(crate) live: Live,
-    pub(crate) host: Table<Seat<u8, View>, Visitor, Stand, RuleOfHost, Global>,
-    ghost its_host: { (host.shared.table_id.slots ≡ 1) × (host.shared.key.live.value ≡ live) },
     ghost common: { 1 ≤ live.places },
 }
 
 /// The right of one thread to read and change a map. There is one session for each of the map's places, and nobody else makes
-/// changes at its place. A session that is dropped costs its place, until the map is closed. `Places` keeps the sessions that nobody
-/// uses.
+/// changes at its place. A session that is dropped costs its place.
 #[derive(Drop)]
 pub struct Session {
     pub(crate) member: Member,
@@ -45,24 +37,14 @@ pub struct Session {
 
 /// An insertion, a deletion or a replacement that has begun, with the session that makes it. `Map::advance` takes its next steps.
 ///
-/// The session comes back when the operation has ended. Until then its place stays marked. So a `Pending` that is dropped makes
-/// `Map::settle` refuse, and costs the session's place. It reads nothing while it rests, so it holds no row back. What the operation
-/// has written stays, its change too, if it has made it. An operation waits only while it holds no page's latch, so no latch stays
-/// held and nobody waits for it.
+/// The session comes back when the operation has ended. Until then its place stays marked. So a `Pending` that is dropped costs the
+/// session's place. It reads nothing while it rests, so it holds no row back. What the operation has written stays, its change too, if
+/// it has made it. An operation waits only while it holds no page's latch, so no latch stays held and nobody waits for it.
 #[derive(Drop)]
 pub struct Pending {
     pub(crate) now: UnderWay,
     // The session before the operation.
     pub(crate) begun: Snapshot<Session>,
-}
-
-/// What a session had seen at some time, and the number of its place. It takes no memory of the map's, and outlives the session: who
-/// has it when the map settles is told that the map's list of changes goes on from all that the session had seen.
-#[derive(Drop)]
-pub struct Receipt {
-    pub(crate) note: Seat<u8, View>,
-    pub(crate) place: u64,
-    ghost is_note: { IsIdleIn Spent note.me },
 }
 
 /// Why an operation hasn't ended at once.

@@ -9,8 +9,6 @@ use blink_live::{Room, View};
 use blink_machine::Resting;
 use blink_rows::Span;
 
-/// It rests at its place while no session has the place, and keeps what the last session left.
-///
 /// The fields lie as they stand here. What each call writes comes first, and last what few calls touch: where members lie side by side, as
 /// the sessions of a growing map do, no line of the processor's cache has what two of them write in each call.
 #[derive(Drop)]
@@ -53,7 +51,7 @@ pub(crate) struct UnderWay {
     pub mark: u64,
 }
 
-/// The mark of a place whose operation rests: the session reads nothing, and the map can't close.
+/// The mark of a place whose operation rests: the session reads nothing.
 pub(crate) const REST: u64 = 1;
 
 // The least mark of a session at work.

@@ -1,6 +1,5 @@
 //! Opening a map over an index.
 ghost use Rattle.std.specs.Prelude.{◌≡◌, ◌⊎◌, ◌↔◌, ◌+◌, ◌++◌, ◌<◌, ◌≤◌, [], ◌∷◌, All, IfErr, IfOk, OnOk, IsErrOf, length};
-ghost use Rattle.blink_map.specs.Common.{IsHost};
 ghost use Rattle.blink_live.specs.{no_stock, stock_of};
 ghost use Rattle.blink_map.specs.Opening.{AreFirst, AreFirstSessions, IsFirstAt, IsHostWith};
 ghost use Rattle.blink_map.specs.Sessions.{IsSessionOf, IsOpenedWith, IsTooLarge};
@@ -10,7 +9,6 @@ use crate::common::{Extent, open_common};
 use crate::error::MapError;
 use crate::map::{Map, Room, Session};
 use crate::member::Member;
-use crate::rest::{Stand, lay_host};
 use atomic_table::Seat;
 use blink_index::Index;
 use blink_live::{Dealt, Live, Shelf, View};
@@ -18,7 +16,6 @@ use blink_page::MAX_PAGE;
 use blink_rows::{MAX_ROWS_PER_INSERT, Span};
 use std::alloc::{AllocError, Global};
 use std::marker::Brand;
-use std::snapshot::Snapshot;
 
 /// The greatest number of sessions of a map.
 pub const MAX_SESSIONS: u32 = 256;
@@ -92,13 +89,7 @@ impl Map {
         let Ok(sessions) = sessions(alloc, &live, &mut host, room.sessions, quota) else {
             return Err(MapError::OutOfMemory);
         };
-        let stand = Stand {
-            live: Snapshot::of(&live),
-        };
-        let Ok(host) = lay_host(alloc, &stand, host) else {
-            return Err(MapError::OutOfMemory);
-        };
-        Ok((Map { live, host }, sessions))
+        Ok((Map { live }, sessions))
     }
 }
 
@@ -120,8 +111,7 @@ fn sessions(
 ) -> Result<Vec<Session>, AllocError>
     requires host { IsHostWith live.now host.old 0 }
     requires places { live.now.places ≡ count }
-    ensures host { IsHost live.now host.new }
-    ensures sessions { IfOk result (λ sessions. AreFirst live.now count sessions.items) }
+    ensures { IfOk result (λ sessions. AreFirst live.now count sessions.items) }
 {
     let mut sessions = Vec::with_capacity(alloc, count as usize)?;
     for place in 0..u64::from(count) {

@@ -21,12 +21,16 @@ use blink_rows::Span;
 use std::snapshot::Snapshot;
 
 impl Map {
-    /// Runs an operation that changes the map: what `begin` and a first `advance` do. Where no other session has a latch that the
-    /// operation wants, nothing of it is made to rest and goes on again.
+    /// Runs an operation that changes the map: an insertion, a deletion, a replacement, an exchange, or a deletion of an expected
+    /// pointer. It answers as the operation does on a plain map (`Op`, `Answer`), and no other session changes the key between its test
+    /// and its change. Where no other session has a latch that the operation wants, it ends at once.
     ///
-    /// It stops where `begin` refuses, and gives the session back, but for an insertion whose key is there: it looks the key up then, and
-    /// answers. It also stops where `advance` gives the operation back, after `tries` steps in vain, at least one. The call takes no memory,
-    /// waits for nobody, and returns.
+    /// It stops where the session has fewer rows or page numbers at hand than the operation may need, and the pool can't give them: an
+    /// insertion may need 44 rows and 22 page numbers, each other operation a row. Then it gives the session back, and has changed nothing,
+    /// but for what the session has drawn. While rows of the session are on their way back, a later call may be let through
+    /// (`Session::lacks_room_in_all`). An insertion stops only if its key is absent, which it looks up then; so the session may have seen
+    /// more. The operation also stops where `advance` would give it back, after `tries` steps in vain, at least one. The call takes no
+    /// memory, waits for nobody, and returns.
     pub fn start(&self, session: Session, op: Op, tries: u32) -> Result<(Session, Answer), Stopped>
         requires its_own { IsSessionOf self.now session }
         requires updates { IsUpdate op }

@@ -1,15 +1,12 @@
 //! The atomic steps that only a map's seats take: a session's seat marks its place, takes back what a call hasn't used, and brings
-//! rows back that it has taken out; the host's seat sees what sessions have told it.
+//! rows back that it has taken out.
 ghost use Rattle.std.specs.Prelude.{◌≡◌, ◌⊎◌, ◌+◌, ◌<◌, ◌≤◌, ℕ, None, suc, [], length};
-ghost use Rattle.blink_live.specs.{CanGiveBack, ChecksPlace, HasSameNumber, IsIdleIn, IsPassSeat, IsSameSeat, KnowsAuthors, LooksUp, begins_to_wait, frees_last, gets_waiting, gives_back, hears, is_busy, note_of, plan_of, sees_mark, with_stock};
-ghost use Rattle.blink_map.specs.Common.{IsHost};
-ghost use Rattle.blink_live.specs.declared.view.Role.TheVariants.{Spent};
+ghost use Rattle.blink_live.specs.{CanGiveBack, ChecksPlace, HasSameNumber, IsPassSeat, KnowsAuthors, begins_to_wait, frees_last, gets_waiting, gives_back, is_busy, sees_mark, with_stock};
 
 use crate::common::PLACE_WORDS;
 use atomic_table::{Play, Seat};
 use blink_live::{
-    BeginWait, CheckPlace, Collect, FreeRow, GiveBack, Hear, Live, LookUp, MarkPlace, Note,
-    Planned, SeePlace, View, word_count,
+    BeginWait, CheckPlace, Collect, FreeRow, GiveBack, Live, MarkPlace, SeePlace, View, word_count,
 };
 
 /// The compare-and-exchange in the pool's second word of a page number for a later one: the numbers between follow those that the
@@ -48,37 +45,6 @@ pub(crate) fn give_back(live: &Live, seat: &mut Seat<u8, View>)
     ensures back { seat.new.me ≡ (gives_back seat.old.me.0, seat.old.me.1) }
 {
     live.table.shared.load::<GiveBack>(seat, 0);
-}
-
-/// The host's seat sees all changes so far, and all of the note that it holds.
-pub(crate) fn host_looks_up(live: &Live, seat: &mut Seat<u8, View>)
-    requires host { IsHost live.now seat.old }
-    ensures same { HasSameNumber seat.old seat.new }
-    ensures up { LooksUp seat.old.me seat.new.me }
-{
-    live.table.shared.load::<LookUp>(seat, 0);
-}
-
-/// A session's seat splits off a note of what it has seen: a seat of its own, of no other use. The session's seat stays as it is.
-pub(crate) fn split_note(live: &Live, seat: &mut Seat<u8, View>) -> Seat<u8, View>
-    requires same_table { seat.old.table_id ≡ live.now.table.shared.table_id }
-    ensures same { IsSameSeat seat.old seat.new }
-    ensures table { result.table_id ≡ seat.old.table_id }
-    ensures note { result.me ≡ (note_of seat.old.me.0, []) }
-{
-    live.table.shared.split_seat::<Note>(seat)
-}
-
-/// A seat takes a note, and is told what is in it.
-pub(crate) fn hear<B: Planned>(live: &Live, seat: &mut Seat<u8, View>, note: Seat<u8, View>)
-    requires tables { (seat.old.table_id ≡ live.now.table.shared.table_id)
-        × (note.table_id ≡ live.now.table.shared.table_id) }
-    requires picked { B.plan ≡ plan_of live.now.table.shared.key }
-    requires note { IsIdleIn Spent note.me }
-    ensures same { HasSameNumber seat.old seat.new }
-    ensures heard { seat.new.me ≡ (hears seat.old.me.0 note.me.0, seat.old.me.1) }
-{
-    live.table.shared.join_seat::<Hear<B>>(seat, note);
 }
 
 /// The rows that a session has taken out begin to wait. None of its rows waits before.

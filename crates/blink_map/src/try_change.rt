@@ -17,12 +17,13 @@ use blink_batch::{Answer, Op};
 use blink_live::Live;
 
 impl Map {
-    /// Runs an operation that changes the map as `change` does, but waits for nobody: where it would have to wait, it is given up, and so
-    /// is an insertion into a leaf that is full. Then there is no answer, and the operation has changed nothing, though the session may
-    /// have seen more; `start` begins it anew. The session stays where it is, so the call costs less than `start`. It takes `tries` steps
-    /// in vain before it gives up, at least one, takes no memory, and returns.
+    /// Runs an operation that changes the map as `start` does, by a session that stays where it is, so it costs less. Where the operation
+    /// would have to wait it is given up, and so is an insertion into a leaf that is full. Then there is no answer, and the operation has
+    /// changed nothing, though the session may have seen more; `start` begins it anew. The call takes `tries` steps in vain before it gives
+    /// up, at least one. It takes no memory, waits for nobody, and returns.
     ///
-    /// The call is refused where `start` gives the session back for lack of room, and leaves what a refused `change` leaves.
+    /// The call is refused where `start` gives the session back for lack of room. Then it changes nothing, but for what the session has
+    /// drawn. An insertion is refused only if its key is absent, which it looks up then; so the session may have seen more.
     pub fn try_change(
         &self,
         session: &mut Session,

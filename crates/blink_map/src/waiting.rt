@@ -1,12 +1,8 @@
-//! How often calls of a map try before they wait or give up, and how much a session takes from the pool at once. Most cost time on one
+//! How often calls of a map try before they give up, and how much a session takes from the pool at once. Most cost time on one
 //! side or the other, and none decides what a call answers.
 
-// How often `Map::change` tries a latch at once that another session has, before its operation rests and its thread yields. Each try
-// reads a word that the other session is about to write.
-pub(crate) const SPINS: u32 = 8;
-
-// How often a call of a session that is short of rows looks whether they come back, before `Map::change` yields, or `begin` and `start`
-// refuse. Each look goes over places of other sessions.
+// How often a call of a session that is short of rows looks whether they come back, before it is refused. Each look goes over places of
+// other sessions.
 pub(crate) const LOOKS: u32 = 64;
 
 // As many rows at least wait together, so that two looks at each of 256 places are a few loads a change. A session lets rows wait also

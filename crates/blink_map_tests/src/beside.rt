@@ -87,7 +87,7 @@ fn do_part<R: Wait + Abort>(
 }
 
 // Each of the two sessions does its part; `false`, if a thread couldn't be started.
-fn run_two<R: Threads + Abort + Wait + Sync>(
+pub(crate) fn run_two<R: Threads + Abort + Wait + Sync>(
     rt: &R,
     alloc: Global,
     map: &Map,
@@ -126,24 +126,18 @@ fn run_two<R: Threads + Abort + Wait + Sync>(
     )
 }
 
-// The first session does the first work, and the second the second. Returns their map.
+// The first session does the first work, and the second the second.
 pub(crate) fn in_two_threads<R: Threads + Abort + Wait + Sync>(
     rt: &R,
     alloc: Global,
     two: Two,
     works: (Work, Work),
     told: &Told,
-) -> Map {
-    let Two {
-        map,
-        places: _places,
-        one,
-        other,
-    } = two;
+) {
+    let Two { map, one, other } = two;
     assert!(rt;
         run_two(rt, alloc, &map, one, other, works, told),
         "a thread couldn't be started"
     );
     assert!(rt; told.has_ended(), "no thread has ended its changes");
-    map
 }

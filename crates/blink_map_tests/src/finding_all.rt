@@ -3,7 +3,7 @@ use crate::same::same;
 use crate::shared::Two;
 use crate::shared::Who::One;
 use crate::story::Act::{self, Call, FindAll, InsertEach, Tell, Turn};
-use crate::story::{End, Story, play};
+use crate::story::{Story, play_all};
 use blink_batch::{Answer, Op};
 use std::process::Abort;
 
@@ -14,12 +14,7 @@ impl Two {
     // The first session looks up these keys by one call, which gives these answers.
     pub(crate) fn find_all(&mut self, rt: &impl Abort, keys: &[u64], expected: &[Option<u64>]) {
         assert!(rt; keys.len() <= MOST, "too many keys");
-        let Two {
-            map,
-            places: _,
-            one,
-            other: _,
-        } = self;
+        let Two { map, one, other: _ } = self;
         let mut answers = [None; MOST];
         let answers = &mut answers[..keys.len()];
         map.find_all(one, keys, answers);
@@ -35,6 +30,7 @@ const FOURTEEN: &[Act] = &[
 
 // More keys than the descents of one group, some of them twice, and two of them absent.
 const IN_ORDER: Story = Story {
+    name: "answers come in the order of the keys",
     room: (2000, 4000),
     scenes: &[
         FOURTEEN,
@@ -55,27 +51,17 @@ const IN_ORDER: Story = Story {
             ],
         )],
     ],
-    end: End::StaysOpen,
 };
-
-#[test]
-fn find_all_answers_in_the_order_of_the_keys(rt: HostRuntime) {
-    play(&rt, rt.alloc(), &IN_ORDER);
-}
 
 const NO_KEY: Story = Story {
+    name: "no key has no answer",
     room: (2000, 4000),
     scenes: &[FOURTEEN, &[FindAll(&[], &[])]],
-    end: End::StaysOpen,
 };
-
-#[test]
-fn find_all_of_no_key_answers_nothing(rt: HostRuntime) {
-    play(&rt, rt.alloc(), &NO_KEY);
-}
 
 // What the first session has changed it tells the second, which looks the keys up in its place.
 const TOLD: Story = Story {
+    name: "the session finds what it was told",
     room: (2000, 4000),
     scenes: &[
         FOURTEEN,
@@ -88,10 +74,11 @@ const TOLD: Story = Story {
             FindAll(&[1, 9, 20, 8], &[Some(11), None, Some(200), Some(80)]),
         ],
     ],
-    end: End::StaysOpen,
 };
 
+const STORIES: [&Story; 3] = [&IN_ORDER, &NO_KEY, &TOLD];
+
 #[test]
-fn find_all_shows_what_the_session_was_told(rt: HostRuntime) {
-    play(&rt, rt.alloc(), &TOLD);
+fn finds_of_several_keys(rt: HostRuntime) {
+    play_all(&rt, rt.alloc(), &STORIES);
 }

@@ -4,10 +4,6 @@
 #[cfg(test)]
 mod beside;
 #[cfg(test)]
-mod clients;
-#[cfg(test)]
-mod ends;
-#[cfg(test)]
 mod filling;
 #[cfg(test)]
 mod finding_all;
@@ -15,6 +11,8 @@ mod finding_all;
 mod memory;
 #[cfg(test)]
 mod plain;
+#[cfg(test)]
+mod row;
 #[cfg(test)]
 mod rows_again;
 #[cfg(test)]
@@ -34,12 +32,8 @@ mod snapshots;
 #[cfg(test)]
 mod splitting;
 #[cfg(test)]
-mod stepping;
-#[cfg(test)]
 mod story;
 #[cfg(test)]
 mod threads;
 #[cfg(test)]
 mod trying;
-#[cfg(test)]
-mod words;

@@ -4,15 +4,14 @@ use crate::shared::Who::One;
 use crate::sights::Sight::PoolRows;
 use blink_batch::{Answer, Op};
 use std::process::Abort;
-use std::sync::Wait;
 
 // So often one key is inserted and deleted.
 const TURNS: u64 = 100_000;
 
 impl Two {
-    fn insert_and_delete<R: Wait + Abort>(&mut self, rt: &R, key: u64, pointer: u64) {
-        self.call(rt, One, Op::Insert(key, pointer), Ok(Answer::Inserted));
-        self.call(rt, One, Op::Delete(key), Ok(Answer::Removed(pointer)));
+    fn insert_and_delete(self, rt: &impl Abort, key: u64, pointer: u64) -> Two {
+        let two = self.call(rt, One, Op::Insert(key, pointer), Ok(Answer::Inserted));
+        two.call(rt, One, Op::Delete(key), Ok(Answer::Removed(pointer)))
     }
 }
 
@@ -22,7 +21,7 @@ impl Two {
 fn many_changes_take_few_rows(rt: HostRuntime) {
     let mut two = Two::open(&rt, rt.alloc(), (100, 300));
     for pointer in 0..TURNS {
-        two.insert_and_delete(&rt, 7, pointer);
+        two = two.insert_and_delete(&rt, 7, pointer);
     }
     two.see(&rt, PoolRows(225));
 }

@@ -1,5 +1,4 @@
 //! Scans of ranges of keys.
-ghost use Rattle.std.specs.Prelude.{◌≤◌};
 ghost use Rattle.blink_map.specs.{IsSessionOf};
 
 use crate::beside::{Told, Work, in_two_threads};
@@ -7,7 +6,7 @@ use crate::same::{same, same_for};
 use crate::shared::Who::One;
 use crate::shared::{Two, call};
 use crate::story::Act::{self, Call, DeleteEach, InsertEach, Scan as Scans, Tell, Turn};
-use crate::story::{End, Story, play};
+use crate::story::{Story, play_all};
 use blink_batch::{Answer, Entry, Op};
 use blink_map::{Map, Scanned, Session};
 use std::process::Abort;
@@ -37,12 +36,7 @@ impl Two {
 
     fn scan(&mut self, rt: &impl Abort, case: &Scan) {
         assert!(rt; case.places <= 20, "too many places");
-        let Two {
-            map,
-            places: _,
-            one,
-            other: _,
-        } = self;
+        let Two { map, one, other: _ } = self;
         let mut into = [BEFORE; 20];
         let (lo, hi) = case.range;
         let scanned = map.scan(one, lo, hi, &mut into[..case.places]);
@@ -139,15 +133,10 @@ const SCANS: &[Scan] = &[
 ];
 
 const RANGES: Story = Story {
+    name: "a scan reports its range",
     room: (2000, 4000),
     scenes: &[WITH_EMPTY_LEAVES, &[Scans(SCANS)]],
-    end: End::StaysOpen,
 };
-
-#[test]
-fn a_scan_reports_its_range(rt: HostRuntime) {
-    play(&rt, rt.alloc(), &RANGES);
-}
 
 const TOLD: &[Scan] = &[Scan {
     range: (2, 12),
@@ -158,6 +147,7 @@ const TOLD: &[Scan] = &[Scan {
 
 // What the first session has changed it tells the second, which scans in its place.
 const TOLD_RANGE: Story = Story {
+    name: "a scan shows what the session was told",
     room: (2000, 4000),
     scenes: &[
         WITH_EMPTY_LEAVES,
@@ -171,50 +161,48 @@ const TOLD_RANGE: Story = Story {
             Scans(TOLD),
         ],
     ],
-    end: End::StaysOpen,
 };
 
+const STORIES: [&Story; 2] = [&RANGES, &TOLD_RANGE];
+
 #[test]
-fn a_scan_shows_what_the_session_was_told(rt: HostRuntime) {
-    play(&rt, rt.alloc(), &TOLD_RANGE);
+fn scans_of_ranges(rt: HostRuntime) {
+    play_all(&rt, rt.alloc(), &STORIES);
 }
 
 // ---- a scan while another session changes the map
 
 // Inserts the odd keys below 2,000, each with ten times the key.
-fn insert_odd<R: Abort + Wait>(rt: &R, map: &Map, session: &mut Session)
-    requires { IsSessionOf map.now session.old }
-    ensures { IsSessionOf map.now session.new }
+fn insert_odd<R: Abort + Wait>(rt: &R, map: &Map, mut session: Session) -> Session
+    requires { IsSessionOf map.now session }
+    ensures { IsSessionOf map.now result }
 {
     for place in 0..1000u64 {
         let key = place.wrapping_mul(2).wrapping_add(1);
         let op = Op::Insert(key, key.wrapping_mul(10));
-        call(rt, map, session, op, Ok(Answer::Inserted));
+        session = call(rt, map, session, op, Ok(Answer::Inserted));
     }
+    session
 }
 
 // Deletes them again.
-fn delete_odd<R: Abort + Wait>(rt: &R, map: &Map, session: &mut Session)
-    requires { IsSessionOf map.now session.old }
-    ensures { IsSessionOf map.now session.new }
+fn delete_odd<R: Abort + Wait>(rt: &R, map: &Map, mut session: Session) -> Session
+    requires { IsSessionOf map.now session }
+    ensures { IsSessionOf map.now result }
 {
     for place in 0..1000u64 {
         let key = place.wrapping_mul(2).wrapping_add(1);
         let removed = Answer::Removed(key.wrapping_mul(10));
-        call(rt, map, session, Op::Delete(key), Ok(removed));
+        session = call(rt, map, session, Op::Delete(key), Ok(removed));
     }
+    session
 }
 
-pub(crate) fn change_odd<R: Abort + Wait>(
-    rt: &R,
-    map: &Map,
-    mut session: Session,
-    told: &Told,
-) -> bool
+pub(crate) fn change_odd<R: Abort + Wait>(rt: &R, map: &Map, session: Session, told: &Told) -> bool
     requires { IsSessionOf map.now session }
 {
-    insert_odd(rt, map, &mut session);
-    delete_odd(rt, map, &mut session);
+    let session = insert_odd(rt, map, session);
+    let _session = delete_odd(rt, map, session);
     told.end();
     true
 }
@@ -269,19 +257,20 @@ fn even_among(rt: &impl Abort, entries: &[Entry], from: u64) -> u64 {
 
 impl Two {
     // The first session inserts every so-manyeth key, so many of them, each with ten times the key.
-    pub(crate) fn insert_every<R: Wait + Abort>(&mut self, rt: &R, step: u64, count: u64) {
+    pub(crate) fn insert_every(self, rt: &impl Abort, step: u64, count: u64) -> Two {
+        let mut two = self;
         for place in 0..count {
             let key = place.wrapping_mul(step);
             let op = Op::Insert(key, key.wrapping_mul(10));
-            self.call(rt, One, op, Ok(Answer::Inserted));
+            two = two.call(rt, One, op, Ok(Answer::Inserted));
         }
+        two
     }
 }
 
 #[test]
 fn one_session_scans_while_another_changes(rt: HostRuntime) {
-    let mut two = Two::open(&rt, rt.alloc(), (30_000, 100_000));
-    two.insert_every(&rt, 2, 1000);
+    let two = Two::open(&rt, rt.alloc(), (30_000, 100_000)).insert_every(&rt, 2, 1000);
     let works = (Work::ChangeOdd, Work::ScanEven);
-    let _map = in_two_threads(&rt, rt.alloc(), two, works, &Told::nothing());
+    in_two_threads(&rt, rt.alloc(), two, works, &Told::nothing());
 }

@@ -7,7 +7,7 @@ use crate::scanning::{BEFORE, Scan, WITH_EMPTY_LEAVES, are_as_expected};
 use crate::shared::Two;
 use crate::shared::Who::One;
 use crate::story::Act::{Call, ScanBack, Tell, Turn};
-use crate::story::{End, Story, play};
+use crate::story::{Story, play_all};
 use blink_batch::{Answer, Entry, Op};
 use blink_map::{Map, Session};
 use std::process::Abort;
@@ -22,12 +22,7 @@ impl Two {
 
     fn scan_back(&mut self, rt: &impl Abort, case: &Scan) {
         assert!(rt; case.places <= 20, "too many places");
-        let Two {
-            map,
-            places: _,
-            one,
-            other: _,
-        } = self;
+        let Two { map, one, other: _ } = self;
         let mut into = [BEFORE; 20];
         let (lo, hi) = case.range;
         let scanned = map.scan_back(one, lo, hi, &mut into[..case.places]);
@@ -109,15 +104,10 @@ const SCANS: &[Scan] = &[
 ];
 
 const RANGES: Story = Story {
+    name: "a backward scan reports its range",
     room: (2000, 4000),
     scenes: &[WITH_EMPTY_LEAVES, &[ScanBack(SCANS)]],
-    end: End::StaysOpen,
 };
-
-#[test]
-fn a_backward_scan_reports_its_range(rt: HostRuntime) {
-    play(&rt, rt.alloc(), &RANGES);
-}
 
 const TOLD: &[Scan] = &[Scan {
     range: (2, 12),
@@ -128,6 +118,7 @@ const TOLD: &[Scan] = &[Scan {
 
 // What the first session has changed it tells the second, which scans in its place.
 const TOLD_RANGE: Story = Story {
+    name: "a backward scan shows what the session was told",
     room: (2000, 4000),
     scenes: &[
         WITH_EMPTY_LEAVES,
@@ -141,12 +132,13 @@ const TOLD_RANGE: Story = Story {
             ScanBack(TOLD),
         ],
     ],
-    end: End::StaysOpen,
 };
 
+const STORIES: [&Story; 2] = [&RANGES, &TOLD_RANGE];
+
 #[test]
-fn a_backward_scan_shows_what_the_session_was_told(rt: HostRuntime) {
-    play(&rt, rt.alloc(), &TOLD_RANGE);
+fn backward_scans_of_ranges(rt: HostRuntime) {
+    play_all(&rt, rt.alloc(), &STORIES);
 }
 
 // ---- a backward scan while another session changes the map
@@ -206,8 +198,7 @@ fn even_among(rt: &impl Abort, entries: &[Entry], from: u64) -> u64 {
 
 #[test]
 fn one_session_scans_back_while_another_changes(rt: HostRuntime) {
-    let mut two = Two::open(&rt, rt.alloc(), (30_000, 100_000));
-    two.insert_every(&rt, 2, 1000);
+    let two = Two::open(&rt, rt.alloc(), (30_000, 100_000)).insert_every(&rt, 2, 1000);
     let works = (Work::ChangeOdd, Work::ScanEvenBack);
-    let _map = in_two_threads(&rt, rt.alloc(), two, works, &Told::nothing());
+    in_two_threads(&rt, rt.alloc(), two, works, &Told::nothing());
 }

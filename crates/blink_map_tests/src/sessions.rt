@@ -2,14 +2,12 @@
 use crate::same::{given, same_for};
 use crate::shared::Two;
 use crate::shared::Who::{One, Other};
-use crate::sights::Sight::NoThirdPlace;
-use crate::story::Act::{self, Call, Leave, See, Tell};
-use crate::story::{End, Story, play};
+use crate::story::Act::{self, Call, Tell};
+use crate::story::{Story, play_all};
 use blink_batch::{Answer, Op};
 use blink_index::Index;
 use blink_map::{Full, Map, MapError, Room};
 use std::process::Abort;
-use std::sync::Wait;
 
 // The first session has inserted a key, and then the second has replaced its pointer.
 const REPLACED_KEY: &[Act] = &[
@@ -20,6 +18,7 @@ const REPLACED_KEY: &[Act] = &[
 ];
 
 const ONE_KEY: Story = Story {
+    name: "sessions change one key",
     room: (200, 2000),
     scenes: &[
         REPLACED_KEY,
@@ -32,16 +31,11 @@ const ONE_KEY: Story = Story {
             Call(One, Op::Find(7), Ok(Answer::Absent)),
         ],
     ],
-    end: End::StaysOpen,
 };
-
-#[test]
-fn sessions_change_one_key(rt: HostRuntime) {
-    play(&rt, rt.alloc(), &ONE_KEY);
-}
 
 // One session exchanges a pointer that it has seen. The other expects the same one, and finds the new one.
 const EXCHANGES: Story = Story {
+    name: "one of two exchanges finds what it expects",
     room: (200, 2000),
     scenes: &[
         REPLACED_KEY,
@@ -53,16 +47,11 @@ const EXCHANGES: Story = Story {
             Call(Other, Op::Find(7), Ok(Answer::Found(74))),
         ],
     ],
-    end: End::StaysOpen,
 };
-
-#[test]
-fn one_of_two_exchanges_finds_what_it_expects(rt: HostRuntime) {
-    play(&rt, rt.alloc(), &EXCHANGES);
-}
 
 // One session exchanges a pointer. The other, which has seen the one before, doesn't remove the new one unseen.
 const EXACT_DELETIONS: Story = Story {
+    name: "a deletion of a seen pointer leaves a later one",
     room: (200, 2000),
     scenes: &[
         REPLACED_KEY,
@@ -75,12 +64,49 @@ const EXACT_DELETIONS: Story = Story {
             Call(One, Op::Find(7), Ok(Answer::Absent)),
         ],
     ],
-    end: End::StaysOpen,
 };
 
+// The first session draws all 44 rows, so the second has none.
+const SMALL_POOL: Story = Story {
+    name: "a small pool is used up",
+    room: (22, 44),
+    scenes: &[&[
+        Call(One, Op::Insert(1, 10), Ok(Answer::Inserted)),
+        Call(One, Op::Insert(2, 20), Ok(Answer::Inserted)),
+        Call(One, Op::Replace(1, 11), Ok(Answer::Replaced(10))),
+        Call(One, Op::Delete(1), Ok(Answer::Removed(11))),
+        Call(Other, Op::Delete(2), Err(Full)),
+        Call(Other, Op::Insert(3, 30), Err(Full)),
+        Call(Other, Op::Insert(2, 21), Ok(Answer::Exists(20))),
+        Call(Other, Op::Find(1), Ok(Answer::Absent)),
+        Call(Other, Op::Find(2), Ok(Answer::Found(20))),
+        Call(Other, Op::Find(3), Ok(Answer::Absent)),
+    ]],
+};
+
+// The first session draws 44 of 45 rows. That is too few for the second one's insertion, and enough for its replacement.
+const LAST_ROW: Story = Story {
+    name: "one row is enough for a replacement",
+    room: (22, 45),
+    scenes: &[&[
+        Call(One, Op::Insert(7, 70), Ok(Answer::Inserted)),
+        Call(Other, Op::Find(7), Ok(Answer::Found(70))),
+        Call(Other, Op::Insert(8, 80), Err(Full)),
+        Call(Other, Op::Replace(7, 71), Ok(Answer::Replaced(70))),
+    ]],
+};
+
+const STORIES: [&Story; 5] = [
+    &ONE_KEY,
+    &EXCHANGES,
+    &EXACT_DELETIONS,
+    &SMALL_POOL,
+    &LAST_ROW,
+];
+
 #[test]
-fn a_deletion_of_a_seen_pointer_leaves_a_later_one(rt: HostRuntime) {
-    play(&rt, rt.alloc(), &EXACT_DELETIONS);
+fn sessions_of_one_map(rt: HostRuntime) {
+    play_all(&rt, rt.alloc(), &STORIES);
 }
 
 // The keys of this place, in an order that looks like chance.
@@ -89,67 +115,34 @@ fn key_at(place: u64) -> u64 {
 }
 
 // The sessions insert 300 keys in turn, each with its place.
-fn insert_in_turn<R: Wait + Abort>(rt: &R, two: Two) -> Two {
+fn insert_in_turn(rt: &impl Abort, two: Two) -> Two {
     let mut two = two;
     for place in 0..300u64 {
         let op = Op::Insert(key_at(place), place);
-        two.call(rt, One, op, Ok(Answer::Inserted));
-        two = two.turn();
+        two = two.call(rt, One, op, Ok(Answer::Inserted)).turn();
     }
     two
 }
 
 // The first session finds them.
-fn find_each<R: Wait + Abort>(rt: &R, two: &mut Two) {
+fn find_each(rt: &impl Abort, two: Two) -> Two {
+    let mut two = two;
     for place in 0..300u64 {
         let found = Answer::Found(place);
-        two.call(rt, One, Op::Find(key_at(place)), Ok(found));
+        two = two.call(rt, One, Op::Find(key_at(place)), Ok(found));
     }
+    two
 }
 
+// A map is opened over the entries of another one.
 #[test]
-fn what_sessions_inserted_is_in_the_index(rt: HostRuntime) {
+fn what_sessions_inserted_is_in_the_next_map(rt: HostRuntime) {
     let alloc = rt.alloc();
-    let two = insert_in_turn(&rt, Two::open(&rt, alloc, (2000, 4000)));
-    let index = given(&rt, two.close(alloc));
-    let mut two = Two::over(&rt, alloc, &index, (0, 0));
-    find_each(&rt, &mut two);
-    two.call(&rt, One, Op::Insert(1000, 1), Err(Full));
-}
-
-const THIRD_SESSION: Story = Story {
-    room: (200, 2000),
-    scenes: &[&[
-        See(NoThirdPlace),
-        Leave,
-        See(NoThirdPlace),
-        Call(One, Op::Insert(1, 2), Ok(Answer::Inserted)),
-    ]],
-    end: End::StaysOpen,
-};
-
-#[test]
-fn a_third_session_finds_no_place(rt: HostRuntime) {
-    play(&rt, rt.alloc(), &THIRD_SESSION);
-}
-
-const SMALL_POOL: Story = Story {
-    room: (22, 44),
-    scenes: &[&[
-        Call(One, Op::Insert(1, 10), Ok(Answer::Inserted)),
-        Call(One, Op::Insert(2, 20), Ok(Answer::Inserted)),
-        Call(One, Op::Delete(1), Ok(Answer::Removed(10))),
-        Call(Other, Op::Delete(2), Err(Full)),
-        Call(Other, Op::Insert(3, 30), Err(Full)),
-        Call(Other, Op::Find(1), Ok(Answer::Absent)),
-        Call(Other, Op::Find(2), Ok(Answer::Found(20))),
-    ]],
-    end: End::StaysOpen,
-};
-
-#[test]
-fn a_small_pool_is_used_up(rt: HostRuntime) {
-    play(&rt, rt.alloc(), &SMALL_POOL);
+    let mut two = insert_in_turn(&rt, Two::open(&rt, alloc, (2000, 4000)));
+    let entries = two.entries(&rt, alloc, 0, u64::MAX);
+    let index = given(&rt, Index::from_sorted(alloc, 4, &entries));
+    let two = find_each(&rt, Two::over(&rt, alloc, &index, (0, 0)));
+    let _two = two.call(&rt, One, Op::Insert(1000, 1), Err(Full));
 }
 
 // Page numbers and sessions for which no map is opened, and why.

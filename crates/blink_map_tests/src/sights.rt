@@ -1,14 +1,12 @@
-//! What a map and its sessions show of their rows, page numbers and places.
+//! What a map and its sessions show of their rows and page numbers.
 use crate::same::{same, same_for};
 use crate::shared::{Two, Who};
 use blink_batch::Op;
-use blink_map::{MapError, Session, Stock};
+use blink_map::{Session, Stock};
 use std::process::Abort;
 
 #[derive(Clone, Copy)]
 pub(crate) enum Sight {
-    // A third session finds no place.
-    NoThirdPlace,
     // The session has this.
     Stock(Who, Stock),
     // The first session has so many rows in all.
@@ -19,14 +17,11 @@ pub(crate) enum Sight {
     // The pool has so many rows or page numbers.
     PoolRows(u64),
     PoolPages(u64),
-    // These words of the map's table are so.
-    Words(&'static [(usize, Option<u64>)]),
 }
 
 impl Two {
     pub(crate) fn see(&self, rt: &impl Abort, sight: Sight) {
         match sight {
-            Sight::NoThirdPlace => same(rt, &self.places.join().err(), &Some(MapError::NoPlace)),
             Sight::Stock(who, stock) => same(rt, &self.map.stock(self.session(who)), &stock),
             Sight::Rows(rows) => same(rt, &rows_of(self.map.stock(&self.one)), &rows),
             Sight::LacksRoom(who, op) => {
@@ -37,11 +32,6 @@ impl Two {
             }
             Sight::PoolRows(rows) => same(rt, &self.map.room().0, &rows),
             Sight::PoolPages(pages) => same(rt, &self.map.room().1, &pages),
-            Sight::Words(words) => {
-                for &(place, word) in words {
-                    same_for(rt, &self.map.word(place), &word, &place);
-                }
-            }
         }
     }
 

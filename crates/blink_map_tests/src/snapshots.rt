@@ -6,7 +6,7 @@ use crate::same::{given, same, same_for};
 use crate::scanning::WITH_EMPTY_LEAVES;
 use crate::shared::{Two, call};
 use crate::story::Act::Snapshot;
-use crate::story::{End, Story, play};
+use crate::story::{Story, play_all};
 use blink_batch::{Answer, Entry, Op};
 use blink_map::{Map, Session};
 use std::alloc::Global;
@@ -28,16 +28,21 @@ impl Two {
     }
 
     fn snapshot(&mut self, rt: &impl Abort, alloc: Global, case: &Taken) {
-        let Two {
-            map,
-            places: _,
-            one,
-            other: _,
-        } = self;
         let (lo, hi) = case.range;
+        are_entries(rt, &self.entries(rt, alloc, lo, hi), case);
+    }
+
+    // The entries of a range, in a snapshot by the first session.
+    pub(crate) fn entries(
+        &mut self,
+        rt: &impl Abort,
+        alloc: Global,
+        lo: u64,
+        hi: u64,
+    ) -> Vec<Entry> {
+        let Two { map, one, other: _ } = self;
         let found = given(rt, map.snapshot(alloc, one, lo, hi, 1));
-        let entries = found.expect(rt, "no snapshot");
-        are_entries(rt, &entries, case);
+        found.expect(rt, "no snapshot")
     }
 }
 
@@ -87,14 +92,14 @@ const TAKEN: &[Taken] = &[
 ];
 
 const RANGES: Story = Story {
+    name: "a snapshot has its range",
     room: (2000, 4000),
     scenes: &[WITH_EMPTY_LEAVES, &[Snapshot(TAKEN)]],
-    end: End::StaysOpen,
 };
 
 #[test]
-fn a_snapshot_has_its_range(rt: HostRuntime) {
-    play(&rt, rt.alloc(), &RANGES);
+fn snapshots_of_ranges(rt: HostRuntime) {
+    play_all(&rt, rt.alloc(), &[&RANGES]);
 }
 
 // ---- snapshots while another session changes the map
@@ -110,7 +115,7 @@ pub(crate) fn insert_ascending<R: Abort + Wait>(
 {
     for key in 0..2000u64 {
         let op = Op::Insert(key, key.wrapping_mul(10));
-        call(rt, map, &mut session, op, Ok(Answer::Inserted));
+        session = call(rt, map, session, op, Ok(Answer::Inserted));
     }
     told.end();
     true
@@ -162,6 +167,6 @@ fn snapshots_show_no_key_without_the_lesser_ones(rt: HostRuntime) {
     let two = Two::open(&rt, rt.alloc(), (30_000, 100_000));
     let told = Told::nothing();
     let works = (Work::InsertAscending, Work::TakeSnapshots);
-    let _map = in_two_threads(&rt, rt.alloc(), two, works, &told);
+    in_two_threads(&rt, rt.alloc(), two, works, &told);
     assert!(&rt; told.snapshots() > 0);
 }

@@ -1,4 +1,4 @@
-//! Reads around leaves that are being split. An operation gives up only where it waits, and between two writes of a
+//! Reads around leaves that are being split. An operation is given back only where it waits, and between two writes of a
 //! split it waits for nobody, so this takes two threads. One inserts keys from the greatest down, which splits leaf by
 //! leaf; the other reads. What it reads is known but for one number, the least of the new keys that it meets: all
 //! greater ones are there.
@@ -87,7 +87,7 @@ pub(crate) fn insert_downwards<R: Abort + Wait>(
         let key = END.wrapping_sub(1).wrapping_sub(place);
         if key % 8 != 0 {
             let op = Op::Insert(key, key.wrapping_mul(10));
-            call(rt, map, &mut session, op, Ok(Answer::Inserted));
+            session = call(rt, map, session, op, Ok(Answer::Inserted));
         }
     }
     told.end();
@@ -180,9 +180,8 @@ pub(crate) fn read_meanwhile(
 #[test]
 fn reads_around_a_split_show_every_key_but_those_to_come(rt: HostRuntime) {
     for _ in 0..4 {
-        let mut two = Two::open(&rt, rt.alloc(), (30_000, 100_000));
-        two.insert_every(&rt, 8, 250);
+        let two = Two::open(&rt, rt.alloc(), (30_000, 100_000)).insert_every(&rt, 8, 250);
         let works = (Work::InsertDownwards, Work::ReadAround);
-        let _map = in_two_threads(&rt, rt.alloc(), two, works, &Told::nothing());
+        in_two_threads(&rt, rt.alloc(), two, works, &Told::nothing());
     }
 }

@@ -1,13 +1,13 @@
 //! Threads, each with a session of one map.
 ghost use Rattle.blink_map.specs.{IsSessionOf};
 
-use crate::beside::{Told, Work, in_two_threads};
+use crate::beside::{Told, Work, run_two};
 use crate::same::{given, same};
-use crate::shared::{Two, apply, close};
-use crate::stepping::apply_in_steps;
+use crate::shared::{apply, try_apply};
 use blink_batch::{Answer, Op};
 use blink_index::Index;
-use blink_map::{Full, Map, Session};
+use blink_map::{Full, Map, Room, Session};
+use std::alloc::Global;
 use std::process::Abort;
 use std::sync::Wait;
 use std::sync::atomic::{AtomicU64, Ordering};
@@ -50,38 +50,51 @@ impl Counts {
     }
 }
 
-// Each key was inserted once more than it was removed, if the index has it, and else as often.
-fn balance(rt: &impl Abort, counts: &Counts, index: &Index) {
+// Each key was inserted once more than it was removed, if the map has it, and else as often.
+fn balance(rt: &impl Abort, counts: &Counts, entries: u64) {
     let inserted = counts.inserted.load(Ordering::SeqCst);
     let removed = counts.removed.load(Ordering::SeqCst);
     same(rt, &counts.full.load(Ordering::SeqCst), &0);
     assert!(rt; removed > 1_000);
-    same(rt, &removed.wrapping_add(entries_of(index)), &inserted);
+    same(rt, &removed.wrapping_add(entries), &inserted);
 }
 
-// How many of the keys have an entry.
-fn entries_of(index: &Index) -> u64 {
-    let mut found: u64 = 0;
-    for key in 0..KEYS {
-        if index.find(key).is_some() {
-            found = found.wrapping_add(1);
-        }
-    }
-    found
+const ROOM: Room = Room {
+    pages: 400_000,
+    rows: 800_000,
+    sessions: 3,
+};
+
+// A map over an empty index, and its three sessions.
+fn three(rt: &impl Abort, alloc: Global) -> (Map, Session, Session, Session)
+    ensures ones { IsSessionOf result.0 result.1 }
+    ensures others { IsSessionOf result.0 result.2 }
+    ensures thirds { IsSessionOf result.0 result.3 }
+{
+    let empty = given(rt, Index::new(alloc, 4));
+    let (map, mut sessions) = Map::open(alloc, &empty, ROOM).expect(rt, "no map");
+    let third = sessions.pop().expect(rt, "no third session");
+    let other = sessions.pop().expect(rt, "no second session");
+    let one = sessions.pop().expect(rt, "no session");
+    (map, one, other, third)
 }
 
 #[test]
 fn each_entry_is_inserted_once_more_than_removed(rt: HostRuntime) {
     let alloc = rt.alloc();
-    let two = Two::open(&rt, alloc, (400_000, 800_000));
+    let (map, one, other, mut third) = three(&rt, alloc);
     let told = Told::nothing();
     let works = (Work::ChangeDrawn(7), Work::ChangeDrawn(11));
-    let map = in_two_threads(&rt, alloc, two, works, &told);
-    let index = given(&rt, close(alloc, map));
-    balance(&rt, &told.counts, &index);
+    assert!(&rt;
+        run_two(&rt, alloc, &map, one, other, works, &told),
+        "a thread couldn't be started"
+    );
+    let found = given(&rt, map.snapshot(alloc, &mut third, 0, u64::MAX, 1));
+    let entries = found.expect(&rt, "no snapshot");
+    balance(&rt, &told.counts, entries.len() as u64);
 }
 
-// Runs each second operation in steps, and the others by calls.
+// Tries each second operation where the session lies.
 pub(crate) fn change_drawn<R: Wait>(
     rt: &R,
     map: &Map,
@@ -107,19 +120,21 @@ pub(crate) fn change_drawn<R: Wait>(
     true
 }
 
+// What is given up, or finds too few rows at hand, begins again.
 fn run<R: Wait>(
     rt: &R,
     map: &Map,
     mut session: Session,
     op: Op,
-    in_steps: bool,
+    tries: bool,
 ) -> (Session, Result<Answer, Full>)
     requires { IsSessionOf map.now session }
     ensures { IsSessionOf map.now result.0 }
 {
-    if in_steps {
-        return apply_in_steps(rt, map, session, op);
+    if tries {
+        if let Ok(Some(answer)) = try_apply(map, &mut session, op) {
+            return (session, Ok(answer));
+        }
     }
-    let answer = apply(rt, map, &mut session, op);
-    (session, answer)
+    apply(rt, map, session, op)
 }

@@ -1,5 +1,5 @@
-use Rattle.blink_grow.specs.{IsHeldOf}
+use Rattle.blink_grow.specs.{IsSessionOf}
 use Rattle.blink_grow_tests.proofs.shared.change_held.Given as goal
 
 abbrev pub invariant-loop : goal.invariant-loop
-invariant-loop g l = IsHeldOf l.map l.held
+invariant-loop g l = IsSessionOf l.map l.session

@@ -3,7 +3,7 @@ use Rattle.blink_batch.specs.declared.Answer.TheVariants.{Exists}
 use Rattle.blink_batch.specs.declared.Op.{Op}
 use Rattle.blink_map.specs.Putting.{IsUnchangedBy, LacksKeyOf}
 use Rattle.blink_map.specs.Sessions.{IsAnswered}
-use Rattle.blink_map.proofs.PutsAreChanges.{found_absent, found_there, is_unchanged, looked_in_vain, still_lacks, still_lacks_in_all}
+use Rattle.blink_map.proofs.PutsAreChanges.{found_absent, found_there, is_unchanged, looked_in_vain, still_lacks}
 use Rattle.blink_map.proofs.map.Map.answer_with_no_room.Goals as goal
 
 pub returns-in-Some-clause-answered : goal.returns-in-Some-clause-answered
@@ -14,9 +14,6 @@ returns-in-Some-clause-answered c before room =
 pub returns-in-Some-clause-full : goal.returns-in-Some-clause-full
 returns-in-Some-clause-full c before lacks = still_lacks c.args.op before c.args.session.now c.find.new.session c.find.ensures.same lacks
 
-pub returns-in-Some-clause-in_all : goal.returns-in-Some-clause-in_all
-returns-in-Some-clause-in_all c lacks = still_lacks_in_all c.args.op c.args.session.now c.find.new.session c.find.ensures.same lacks
-
 pub returns-in-None-clause-refused : goal.returns-in-None-clause-refused
 returns-in-None-clause-refused c none before room =
     subst (λ (op : Op). LacksKeyOf c.args.self.now op before c.find.new.session × IsUnchangedBy op before c.find.new.session) (sym c.in-Insert.is) (
@@ -26,9 +23,6 @@ returns-in-None-clause-refused c none before room =
 
 pub returns-in-None-clause-full : goal.returns-in-None-clause-full
 returns-in-None-clause-full c before lacks = still_lacks c.args.op before c.args.session.now c.find.new.session c.find.ensures.same lacks
-
-pub returns-in-None-clause-in_all : goal.returns-in-None-clause-in_all
-returns-in-None-clause-in_all c lacks = still_lacks_in_all c.args.op c.args.session.now c.find.new.session c.find.ensures.same lacks
 
 pub returns-in_default-clause-refused : goal.returns-in_default-clause-refused
 returns-in_default-clause-refused c none before room = is_unchanged c.args.self.now c.args.op before c.args.session.now c.in_default.not-Insert room
