@@ -67,8 +67,8 @@ typedef struct { void *at; } blink_session;
 typedef struct { uint64_t key, pointer; } blink_entry;
 
 /* An operation. A find and a deletion don't read the pointer. An exchange has a third number, for which there is no place here, so it
- * has functions of its own: blink_index_exchange and blink_session_exchange. So has a deletion of an expected
- * pointer: blink_index_delete_exact and its like. */
+ * has functions of its own: blink_index_compare_exchange and blink_session_compare_exchange_try. So has a deletion of an expected
+ * pointer: blink_index_compare_remove and its like. */
 typedef struct { uint64_t kind, key, pointer; } blink_operation;
 
 /* An answer. The pointer is 0 where the answer tells none. */
@@ -252,23 +252,23 @@ int blink_index_insert(blink_index *index, uint64_t key, uint64_t pointer, blink
 /* Removes a key with its pointer in place: BLINK_REMOVED, or BLINK_ABSENT. It is never refused. Where more leaves are empty then than the
  * entries fill, it packs the index as blink_index_compact does, so that scans walk few empty leaves. That takes the time of as many
  * deletions as emptied them. Where memory for it is refused, the leaves stay, and a later deletion tries again. */
-void blink_index_delete(blink_index *index, uint64_t key, blink_answer *answer);
+void blink_index_remove(blink_index *index, uint64_t key, blink_answer *answer);
 
 /* Replaces the pointer of a key in place: BLINK_REPLACED, or BLINK_ABSENT. It takes no memory. */
 void blink_index_replace(blink_index *index, uint64_t key, uint64_t pointer, blink_answer *answer);
 
 /* Replaces the pointer of a key in place, if it is `expected`: BLINK_REPLACED, and `expected`; BLINK_EXISTS, and the other pointer that
  * the key maps to; or BLINK_ABSENT. It takes no memory. */
-void blink_index_exchange(blink_index *index, uint64_t key, uint64_t expected, uint64_t pointer, blink_answer *answer);
+void blink_index_compare_exchange(blink_index *index, uint64_t key, uint64_t expected, uint64_t pointer, blink_answer *answer);
 
 /* Removes a key with its pointer in place, if that is `expected`: BLINK_REMOVED, and `expected`; BLINK_EXISTS, and the other
- * pointer that the key maps to; or BLINK_ABSENT. It packs the index as blink_index_delete does. */
-void blink_index_delete_exact(blink_index *index, uint64_t key, uint64_t expected, blink_answer *answer);
+ * pointer that the key maps to; or BLINK_ABSENT. It packs the index as blink_index_remove does. */
+void blink_index_compare_remove(blink_index *index, uint64_t key, uint64_t expected, blink_answer *answer);
 
 /* Carries operations out in place, one after another, up to the first that is refused, and gives the answer of each at its place. It
  * stores how many were carried out. The other places stay as they were. Refused: BLINK_WRONG_LENGTH, if there aren't as many places
  * for answers as operations, and then none is carried out; or, of the operation next to those carried out,
- * BLINK_UNKNOWN_OPERATION, BLINK_INDEX_TOO_LARGE or BLINK_NO_MEMORY. After a deletion it packs the index as blink_index_delete
+ * BLINK_UNKNOWN_OPERATION, BLINK_INDEX_TOO_LARGE or BLINK_NO_MEMORY. After a deletion it packs the index as blink_index_remove
  * does. */
 int blink_index_apply(blink_index *index, const blink_operation *operations, size_t count, blink_answer *answers,
                       size_t places, size_t *carried_out);
@@ -279,11 +279,11 @@ int blink_index_apply(blink_index *index, const blink_operation *operations, siz
 int blink_index_compact(blink_index *index);
 
 /* Looks a key up: true, and its record pointer; or false, and `pointer` stays as it was. */
-bool blink_index_find(const blink_index *index, uint64_t key, uint64_t *pointer);
+bool blink_index_get(const blink_index *index, uint64_t key, uint64_t *pointer);
 
 /* Looks keys up, and gives the answer of each at its place, BLINK_FOUND or BLINK_ABSENT. Refused: BLINK_WRONG_LENGTH, exactly if
  * there aren't as many places as keys. */
-int blink_index_find_many(const blink_index *index, const uint64_t *keys, size_t count, blink_answer *answers, size_t places);
+int blink_index_get_many(const blink_index *index, const uint64_t *keys, size_t count, blink_answer *answers, size_t places);
 
 /* Gives the entries with keys from `lo` to `hi`, both included, in ascending order, as many as there are places, and tells how far it
  * came; `next` is the key of the first entry for which there was no place. The other places stay as they were. Where `lo` is above `hi`
@@ -352,9 +352,9 @@ int blink_reader_join(const blink_reader *reader, blink_reader *out);
  * index isn't freed, and in no other case. */
 int blink_reader_unshare(blink_reader *reader, blink_index *out);
 
-/* Read the index. Each gives, returns and refuses what the call of the index does that has the same name, as blink_index_find. */
-bool blink_reader_find(const blink_reader *reader, uint64_t key, uint64_t *pointer);
-int blink_reader_find_many(const blink_reader *reader, const uint64_t *keys, size_t count, blink_answer *answers, size_t places);
+/* Read the index. Each gives, returns and refuses what the call of the index does that has the same name, as blink_index_get. */
+bool blink_reader_get(const blink_reader *reader, uint64_t key, uint64_t *pointer);
+int blink_reader_get_many(const blink_reader *reader, const uint64_t *keys, size_t count, blink_answer *answers, size_t places);
 int blink_reader_scan(const blink_reader *reader, uint64_t lo, uint64_t hi, blink_entry *entries, size_t places, blink_scanned *scanned);
 int blink_reader_scan_back(const blink_reader *reader, uint64_t lo, uint64_t hi, blink_entry *entries, size_t places, blink_scanned *scanned);
 size_t blink_reader_count(const blink_reader *reader, uint64_t lo, uint64_t hi);
@@ -388,10 +388,10 @@ void blink_reader_free(blink_reader reader);
  * are gathered, before the copy and after, or if its session is with the renewal, which is that of the change that renews, or of some thread
  * where blink_map_renew does. Changes wait for all of it. Once the entries are copied, a renewal looks up to a million times for each
  * session that is in a search. A call that has to wait is refused with BLINK_RENEWING after `tries` looks, and changes nothing. So is a
- * change that finds the map full while a session is held (blink_session_hold), has an operation under way, or is in a call. Call
+ * change that finds the map full while a session is held (blink_session_hold_try), has an operation under way, or is in a call. Call
  * again then; the functions that wait do. Who wants no pause opens a map with a fixed room (blink_map_open_with_room): it is never renewed.
  *
- * blink_map_open and blink_map_open_with_room, blink_map_share, blink_map_join, blink_map_renew, blink_map_close, blink_session_snapshot and
+ * blink_map_open and blink_map_open_with_room, blink_map_share, blink_map_join, blink_map_renew, blink_map_close, blink_session_snapshot_try and
  * changes that renew the map take memory.
  *
  * From the opening to the close, each code to be looked at:
@@ -399,7 +399,7 @@ void blink_reader_free(blink_reader reader);
  *     blink_map_open(&index, &map);
  *         in each thread, whose session begins as {NULL}:
  *             blink_map_join(&map, &session);
- *             blink_session_put_wait(&session, key, pointer, &answer);
+ *             blink_session_put(&session, key, pointer, &answer);
  *             blink_session_free(session);
  *     blink_map_close(&map, &closed);
  *     blink_map_free(map);
@@ -511,14 +511,14 @@ int blink_map_close(blink_map *map, blink_index *out);
 /* Frees the handle. The handles of sessions, and others of the map, may still be used, and are still to be freed. */
 void blink_map_free(blink_map map);
 
-/* The calls of sessions wait for nobody. A thread that may wait takes blink_session_find_wait, blink_session_insert_wait and their like, at
+/* The calls of sessions wait for nobody. A thread that may wait takes blink_session_get, blink_session_insert and their like, at
  * the end of this file, which have no `tries`. Each looks for its session `tries` times, at least once, while the map is renewed, and is
  * refused with BLINK_RENEWING if it doesn't find it; and with BLINK_PENDING, if an operation of the session is under way. Then nothing
  * changes. */
 
 /* Looks any key up: the answer is BLINK_FOUND or BLINK_ABSENT, after the changes that the session has seen by the end of the call. It returns
  * BLINK_DONE in both cases, so `answer` has to be looked at. Refused: BLINK_PENDING; BLINK_RENEWING. */
-int blink_session_find(blink_session *session, uint64_t key, uint32_t tries, blink_answer *answer);
+int blink_session_get_try(blink_session *session, uint64_t key, uint32_t tries, blink_answer *answer);
 
 /* Gives the entries whose keys are from `lo` to `hi`, both included, in ascending order, as many as there are places; other places
  * stay as they were. It reads leaf after leaf, from the left, each at one time: what it says of a key is what the changes up to some
@@ -526,11 +526,11 @@ int blink_session_find(blink_session *session, uint64_t key, uint32_t tries, bli
  * call is reported, and one that isn't there throughout isn't. The session has seen the changes up to these times then. A walk in parts
  * calls again from `next` as long as `more` is 1; without a place it gets nowhere. It takes no memory. Refused: BLINK_PENDING;
  * BLINK_RENEWING. */
-int blink_session_scan(blink_session *session, uint64_t lo, uint64_t hi, uint32_t tries, blink_entry *entries, size_t places,
+int blink_session_scan_try(blink_session *session, uint64_t lo, uint64_t hi, uint32_t tries, blink_entry *entries, size_t places,
                        blink_scanned *scanned);
 
 /* The same in descending order, as blink_pass_scan_back. */
-int blink_session_scan_back(blink_session *session, uint64_t lo, uint64_t hi, uint32_t tries, blink_entry *entries, size_t places,
+int blink_session_scan_back_try(blink_session *session, uint64_t lo, uint64_t hi, uint32_t tries, blink_entry *entries, size_t places,
                             blink_scanned *scanned);
 
 /* Takes a snapshot: the entries whose keys are from `lo` to `hi`, both included, in ascending order, as all of them were at one time in
@@ -539,10 +539,10 @@ int blink_session_scan_back(blink_session *session, uint64_t lo, uint64_t hi, ui
  * tries, there is no snapshot, and the places stay as they were: try again, or scan. It takes memory for the
  * entries and 16 bytes for each leaf, and frees it again. Refused: BLINK_PENDING; BLINK_RENEWING; BLINK_NO_MEMORY, and then the session may
  * have seen more. */
-int blink_session_snapshot(blink_session *session, uint64_t lo, uint64_t hi, uint32_t tries, blink_entry *entries, size_t places,
+int blink_session_snapshot_try(blink_session *session, uint64_t lo, uint64_t hi, uint32_t tries, blink_entry *entries, size_t places,
                            blink_taken *taken);
 
-/* Insert, delete, replace or exchange any key; the last answers as blink_index_exchange does, and no other session changes the key
+/* Insert, delete, replace or exchange any key; the last answers as blink_index_compare_exchange does, and no other session changes the key
  * between the test and the replacement. Where the map is full they renew it, unless its room is fixed, and take memory then. They return
  * BLINK_DONE and the answer once the operation has ended, and BLINK_PENDING if it
  * hasn't: then it goes on by blink_session_advance, and until it has ended the session can do nothing else, and is held. Tested: that is after
@@ -550,38 +550,38 @@ int blink_session_snapshot(blink_session *session, uint64_t lo, uint64_t hi, uin
  * then nothing changes; BLINK_RENEWING; BLINK_ROWS_BUSY, if rows of the session are on their way back; BLINK_MAP_TOO_LARGE; BLINK_NO_MEMORY;
  * BLINK_FULL, only if the map's room is fixed. The operation isn't made then, and may be begun again. Tested: an insertion of a fixed map is
  * refused with BLINK_FULL only if its key is absent: otherwise it is BLINK_EXISTS all the same. */
-int blink_session_insert(blink_session *session, uint64_t key, uint64_t pointer, uint32_t tries, blink_answer *answer);
-int blink_session_delete(blink_session *session, uint64_t key, uint32_t tries, blink_answer *answer);
-int blink_session_replace(blink_session *session, uint64_t key, uint64_t pointer, uint32_t tries, blink_answer *answer);
-int blink_session_exchange(blink_session *session, uint64_t key, uint64_t expected, uint64_t pointer, uint32_t tries,
+int blink_session_insert_try(blink_session *session, uint64_t key, uint64_t pointer, uint32_t tries, blink_answer *answer);
+int blink_session_remove_try(blink_session *session, uint64_t key, uint32_t tries, blink_answer *answer);
+int blink_session_replace_try(blink_session *session, uint64_t key, uint64_t pointer, uint32_t tries, blink_answer *answer);
+int blink_session_compare_exchange_try(blink_session *session, uint64_t key, uint64_t expected, uint64_t pointer, uint32_t tries,
                            blink_answer *answer);
 
-/* Deletes any key, if its pointer is `expected`, as blink_session_delete deletes one of any pointer. It answers as
- * blink_index_delete_exact does, and no other session changes the key between the test and the deletion. */
-int blink_session_delete_exact(blink_session *session, uint64_t key, uint64_t expected, uint32_t tries, blink_answer *answer);
+/* Deletes any key, if its pointer is `expected`, as blink_session_remove_try deletes one of any pointer. It answers as
+ * blink_index_compare_remove does, and no other session changes the key between the test and the deletion. */
+int blink_session_compare_remove_try(blink_session *session, uint64_t key, uint64_t expected, uint32_t tries, blink_answer *answer);
 
 /* Maps any key to the pointer: BLINK_INSERTED, if nothing was there, or BLINK_REPLACED and the pointer that was there. It replaces, and
  * where the key is absent it inserts; it begins anew where another session has inserted the key between. It goes on as a replacement
  * does, and comes back with BLINK_PENDING also where it begins anew. Refused: as an insertion, also when it goes on. Then it has made no
  * change. */
-int blink_session_put(blink_session *session, uint64_t key, uint64_t pointer, uint32_t tries, blink_answer *answer);
+int blink_session_put_try(blink_session *session, uint64_t key, uint64_t pointer, uint32_t tries, blink_answer *answer);
 
 /* Takes the next steps of the operation or the put that is under way. It returns BLINK_DONE and the answer once that has ended, and
  * BLINK_PENDING if it hasn't: then it holds no page, so that no other session waits for it, and the thread may do something else,
- * yield or wait as it likes, and calls again. Refused: BLINK_IDLE, if nothing is under way; and of a put as blink_session_put, which has
+ * yield or wait as it likes, and calls again. Refused: BLINK_IDLE, if nothing is under way; and of a put as blink_session_put_try, which has
  * then ended without a change. */
 int blink_session_advance(blink_session *session, uint32_t tries, blink_answer *answer);
 
 /* Holds the session for the calls that follow, so that they find no renewal, until it is let go. The map is neither renewed nor closed
  * meanwhile, so hold it for a few calls, and let it go before the thread waits for anything. A change of this session that finds the map
  * full lets it go itself, and so does one that goes on: it is held again by the next change. Refused: BLINK_PENDING; BLINK_RENEWING. */
-int blink_session_hold(blink_session *session, uint32_t tries);
+int blink_session_hold_try(blink_session *session, uint32_t tries);
 void blink_session_let_go(blink_session *session);
 
 /* Tells what the session has of page numbers and rows in the map that it is in just now, for a look; blink_map_room tells what the pool has
  * left. Where the room is fixed, that shows how near its end is. The session is held for the call. Refused: BLINK_PENDING; BLINK_RENEWING; then
  * `reserve` stays as it was. */
-int blink_session_reserve(blink_session *session, uint32_t tries, blink_reserve *reserve);
+int blink_session_reserve_try(blink_session *session, uint32_t tries, blink_reserve *reserve);
 
 /* Frees the handle. Tested: a session leaves its map by it, and its place can be taken again. An operation or a put under way goes on to
  * its end before; only a put may be left undone, where the map has no room for its other half. If it still waits for other sessions
@@ -630,7 +630,7 @@ static inline int blink_session_is_free(blink_session *session) {
     blink_entry nowhere;
     uint32_t pauses = 0;
     int code;
-    while ((code = blink_session_scan(session, 1, 0, BLINK_TRIES, &nowhere, 0, &none)) == BLINK_RENEWING) blink_pause(&pauses);
+    while ((code = blink_session_scan_try(session, 1, 0, BLINK_TRIES, &nowhere, 0, &none)) == BLINK_RENEWING) blink_pause(&pauses);
     return code;
 }
 
@@ -643,29 +643,29 @@ static inline int blink_session_is_free(blink_session *session) {
     while (blink_session_again(session, &code, &tries, &pauses, answer)); \
     return code
 
-static inline int blink_session_insert_wait(blink_session *session, uint64_t key, uint64_t pointer, blink_answer *answer) {
-    BLINK_WAITS(blink_session_insert(session, key, pointer, tries, answer));
+static inline int blink_session_insert(blink_session *session, uint64_t key, uint64_t pointer, blink_answer *answer) {
+    BLINK_WAITS(blink_session_insert_try(session, key, pointer, tries, answer));
 }
 
-static inline int blink_session_delete_wait(blink_session *session, uint64_t key, blink_answer *answer) {
-    BLINK_WAITS(blink_session_delete(session, key, tries, answer));
+static inline int blink_session_remove(blink_session *session, uint64_t key, blink_answer *answer) {
+    BLINK_WAITS(blink_session_remove_try(session, key, tries, answer));
 }
 
-static inline int blink_session_replace_wait(blink_session *session, uint64_t key, uint64_t pointer, blink_answer *answer) {
-    BLINK_WAITS(blink_session_replace(session, key, pointer, tries, answer));
+static inline int blink_session_replace(blink_session *session, uint64_t key, uint64_t pointer, blink_answer *answer) {
+    BLINK_WAITS(blink_session_replace_try(session, key, pointer, tries, answer));
 }
 
-static inline int blink_session_exchange_wait(blink_session *session, uint64_t key, uint64_t expected, uint64_t pointer,
+static inline int blink_session_compare_exchange(blink_session *session, uint64_t key, uint64_t expected, uint64_t pointer,
                                               blink_answer *answer) {
-    BLINK_WAITS(blink_session_exchange(session, key, expected, pointer, tries, answer));
+    BLINK_WAITS(blink_session_compare_exchange_try(session, key, expected, pointer, tries, answer));
 }
 
-static inline int blink_session_delete_exact_wait(blink_session *session, uint64_t key, uint64_t expected, blink_answer *answer) {
-    BLINK_WAITS(blink_session_delete_exact(session, key, expected, tries, answer));
+static inline int blink_session_compare_remove(blink_session *session, uint64_t key, uint64_t expected, blink_answer *answer) {
+    BLINK_WAITS(blink_session_compare_remove_try(session, key, expected, tries, answer));
 }
 
-static inline int blink_session_put_wait(blink_session *session, uint64_t key, uint64_t pointer, blink_answer *answer) {
-    BLINK_WAITS(blink_session_put(session, key, pointer, tries, answer));
+static inline int blink_session_put(blink_session *session, uint64_t key, uint64_t pointer, blink_answer *answer) {
+    BLINK_WAITS(blink_session_put_try(session, key, pointer, tries, answer));
 }
 
 #undef BLINK_WAITS
@@ -677,31 +677,31 @@ static inline int blink_session_put_wait(blink_session *session, uint64_t key, u
     while ((code = call) == BLINK_RENEWING) blink_pause(&pauses);  \
     return code
 
-static inline int blink_session_find_wait(blink_session *session, uint64_t key, blink_answer *answer) {
-    BLINK_WAITS(blink_session_find(session, key, BLINK_TRIES, answer));
+static inline int blink_session_get(blink_session *session, uint64_t key, blink_answer *answer) {
+    BLINK_WAITS(blink_session_get_try(session, key, BLINK_TRIES, answer));
 }
 
-static inline int blink_session_scan_wait(blink_session *session, uint64_t lo, uint64_t hi, blink_entry *entries, size_t places,
+static inline int blink_session_scan(blink_session *session, uint64_t lo, uint64_t hi, blink_entry *entries, size_t places,
                                           blink_scanned *scanned) {
-    BLINK_WAITS(blink_session_scan(session, lo, hi, BLINK_TRIES, entries, places, scanned));
+    BLINK_WAITS(blink_session_scan_try(session, lo, hi, BLINK_TRIES, entries, places, scanned));
 }
 
-static inline int blink_session_scan_back_wait(blink_session *session, uint64_t lo, uint64_t hi, blink_entry *entries, size_t places,
+static inline int blink_session_scan_back(blink_session *session, uint64_t lo, uint64_t hi, blink_entry *entries, size_t places,
                                                blink_scanned *scanned) {
-    BLINK_WAITS(blink_session_scan_back(session, lo, hi, BLINK_TRIES, entries, places, scanned));
+    BLINK_WAITS(blink_session_scan_back_try(session, lo, hi, BLINK_TRIES, entries, places, scanned));
 }
 
-static inline int blink_session_snapshot_wait(blink_session *session, uint64_t lo, uint64_t hi, uint32_t tries, blink_entry *entries,
+static inline int blink_session_snapshot(blink_session *session, uint64_t lo, uint64_t hi, uint32_t tries, blink_entry *entries,
                                               size_t places, blink_taken *taken) {
-    BLINK_WAITS(blink_session_snapshot(session, lo, hi, tries, entries, places, taken));
+    BLINK_WAITS(blink_session_snapshot_try(session, lo, hi, tries, entries, places, taken));
 }
 
-static inline int blink_session_hold_wait(blink_session *session) {
-    BLINK_WAITS(blink_session_hold(session, BLINK_TRIES));
+static inline int blink_session_hold(blink_session *session) {
+    BLINK_WAITS(blink_session_hold_try(session, BLINK_TRIES));
 }
 
-static inline int blink_session_reserve_wait(blink_session *session, blink_reserve *reserve) {
-    BLINK_WAITS(blink_session_reserve(session, BLINK_TRIES, reserve));
+static inline int blink_session_reserve(blink_session *session, blink_reserve *reserve) {
+    BLINK_WAITS(blink_session_reserve_try(session, BLINK_TRIES, reserve));
 }
 
 #undef BLINK_WAITS

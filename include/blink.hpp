@@ -122,8 +122,8 @@ std::optional<std::vector<Entry>> snapshot(H *handle, Snapshot snapshot, Key lo,
 // The calls of an index and of a reader that read.
 template <class H> struct Calls;
 template <> struct Calls<blink_index> {
-    static constexpr auto find = blink_index_find;
-    static constexpr auto find_many = blink_index_find_many;
+    static constexpr auto find = blink_index_get;
+    static constexpr auto find_many = blink_index_get_many;
     static constexpr auto scan = blink_index_scan;
     static constexpr auto scan_back = blink_index_scan_back;
     static constexpr auto count = blink_index_count;
@@ -140,8 +140,8 @@ template <> struct Calls<blink_index> {
     static constexpr auto free = blink_index_free;
 };
 template <> struct Calls<blink_reader> {
-    static constexpr auto find = blink_reader_find;
-    static constexpr auto find_many = blink_reader_find_many;
+    static constexpr auto find = blink_reader_get;
+    static constexpr auto find_many = blink_reader_get_many;
     static constexpr auto scan = blink_reader_scan;
     static constexpr auto scan_back = blink_reader_scan_back;
     static constexpr auto count = blink_reader_count;
@@ -253,7 +253,7 @@ public:
     }
     Answer remove(Key key) {
         Answer answer{0, 0};
-        blink_index_delete(&handle_, key, &answer);
+        blink_index_remove(&handle_, key, &answer);
         return answer;
     }
     Answer replace(Key key, Pointer pointer) {
@@ -263,12 +263,12 @@ public:
     }
     Answer exchange(Key key, Pointer expected, Pointer pointer) {
         Answer answer{0, 0};
-        blink_index_exchange(&handle_, key, expected, pointer, &answer);
+        blink_index_compare_exchange(&handle_, key, expected, pointer, &answer);
         return answer;
     }
     Answer remove_exact(Key key, Pointer expected) {
         Answer answer{0, 0};
-        blink_index_delete_exact(&handle_, key, expected, &answer);
+        blink_index_compare_remove(&handle_, key, expected, &answer);
         return answer;
     }
     // Runs operations on a copy, which then takes the index's place: all of them, or none.
@@ -328,7 +328,7 @@ public:
     // Holds a session as long as it lives, so that calls find no renewal: a few calls at most, since the map can't be renewed meanwhile.
     class Hold {
     public:
-        explicit Hold(Session &session) : session_(&session) { detail::check(blink_session_hold_wait(&session.handle_)); }
+        explicit Hold(Session &session) : session_(&session) { detail::check(blink_session_hold(&session.handle_)); }
         Hold(const Hold &) = delete;
         Hold &operator=(const Hold &) = delete;
         ~Hold() { blink_session_let_go(&session_->handle_); }
@@ -337,48 +337,48 @@ public:
         Session *session_;
     };
     std::optional<Pointer> find(Key key) {
-        return detail::pointer_of(ended([=](auto *it, Answer *answer) { return blink_session_find_wait(it, key, answer); }));
+        return detail::pointer_of(ended([=](auto *it, Answer *answer) { return blink_session_get(it, key, answer); }));
     }
     Answer insert(Key key, Pointer pointer) {
-        return ended([=](auto *it, Answer *answer) { return blink_session_insert_wait(it, key, pointer, answer); });
+        return ended([=](auto *it, Answer *answer) { return blink_session_insert(it, key, pointer, answer); });
     }
     Answer remove(Key key) {
-        return ended([=](auto *it, Answer *answer) { return blink_session_delete_wait(it, key, answer); });
+        return ended([=](auto *it, Answer *answer) { return blink_session_remove(it, key, answer); });
     }
     Answer replace(Key key, Pointer pointer) {
-        return ended([=](auto *it, Answer *answer) { return blink_session_replace_wait(it, key, pointer, answer); });
+        return ended([=](auto *it, Answer *answer) { return blink_session_replace(it, key, pointer, answer); });
     }
     Answer exchange(Key key, Pointer expected, Pointer pointer) {
-        return ended([=](auto *it, Answer *answer) { return blink_session_exchange_wait(it, key, expected, pointer, answer); });
+        return ended([=](auto *it, Answer *answer) { return blink_session_compare_exchange(it, key, expected, pointer, answer); });
     }
     Answer remove_exact(Key key, Pointer expected) {
-        return ended([=](auto *it, Answer *answer) { return blink_session_delete_exact_wait(it, key, expected, answer); });
+        return ended([=](auto *it, Answer *answer) { return blink_session_compare_remove(it, key, expected, answer); });
     }
     // Maps the key to the pointer, and returns the one that was there.
     std::optional<Pointer> put(Key key, Pointer pointer) {
-        return detail::pointer_of(ended([=](auto *it, Answer *answer) { return blink_session_put_wait(it, key, pointer, answer); }));
+        return detail::pointer_of(ended([=](auto *it, Answer *answer) { return blink_session_put(it, key, pointer, answer); }));
     }
     std::vector<Entry> scan(Key lo, Key hi) {
-        return detail::scanned(&handle_, [](auto... all) { return blink_session_scan_wait(all...); }, lo, hi);
+        return detail::scanned(&handle_, [](auto... all) { return blink_session_scan(all...); }, lo, hi);
     }
     // The same from the greatest key down.
     std::vector<Entry> scan_back(Key lo, Key hi) {
-        return detail::scanned_back(&handle_, [](auto... all) { return blink_session_scan_back_wait(all...); }, lo, hi);
+        return detail::scanned_back(&handle_, [](auto... all) { return blink_session_scan_back(all...); }, lo, hi);
     }
     // The first n entries with keys from lo on, or all of these if they are fewer. No others are read.
     std::vector<Entry> page(Key lo, std::uint64_t n) {
-        return detail::scanned(&handle_, [](auto... all) { return blink_session_scan_wait(all...); }, lo, detail::no_end, n);
+        return detail::scanned(&handle_, [](auto... all) { return blink_session_scan(all...); }, lo, detail::no_end, n);
     }
     // The last n entries with keys up to hi, the greatest first, in the same way.
     std::vector<Entry> page_back(Key hi, std::uint64_t n) {
-        return detail::scanned_back(&handle_, [](auto... all) { return blink_session_scan_back_wait(all...); }, 0, hi, n);
+        return detail::scanned_back(&handle_, [](auto... all) { return blink_session_scan_back(all...); }, 0, hi, n);
     }
     std::optional<std::vector<Entry>> snapshot(Key lo, Key hi, std::uint32_t tries) {
-        return detail::snapshot(&handle_, [](auto... all) { return blink_session_snapshot_wait(all...); }, lo, hi, tries);
+        return detail::snapshot(&handle_, [](auto... all) { return blink_session_snapshot(all...); }, lo, hi, tries);
     }
     Reserve reserve() {
         Reserve reserve{0, 0, 0, 0, 0};
-        detail::check(blink_session_reserve_wait(&handle_, &reserve));
+        detail::check(blink_session_reserve(&handle_, &reserve));
         return reserve;
     }
     blink_session *handle() noexcept { return &handle_; }

@@ -62,42 +62,42 @@ static inline void blink_tsan_read(const blink_entry *entries, uint64_t count) {
         return code;                                                                                                                       \
     }
 #define BLINK_TSAN_SNAPSHOTS(kind)                                                                                                         \
-    static inline blink_tsan_code blink_tsan_##kind##_snapshot(blink_##kind *it, uint64_t lo, uint64_t hi, uint32_t tries,                 \
-                                                               blink_entry *entries, size_t places, blink_taken *taken) {                  \
-        blink_tsan_code code = blink_##kind##_snapshot(it, lo, hi, tries, entries, places, taken);                                         \
+    static inline blink_tsan_code blink_tsan_##kind##_snapshot_try(blink_##kind *it, uint64_t lo, uint64_t hi, uint32_t tries,             \
+                                                                   blink_entry *entries, size_t places, blink_taken *taken) {              \
+        blink_tsan_code code = blink_##kind##_snapshot_try(it, lo, hi, tries, entries, places, taken);                                     \
         if (code == BLINK_DONE) blink_tsan_read(entries, taken->there < places ? taken->there : places);                                   \
         return code;                                                                                                                       \
     }
 
-BLINK_TSAN_STORES(session_insert, (blink_session *it, uint64_t key, uint64_t pointer, uint32_t tries, blink_answer *answer),
+BLINK_TSAN_STORES(session_insert_try, (blink_session *it, uint64_t key, uint64_t pointer, uint32_t tries, blink_answer *answer),
                   (it, key, pointer, tries, answer))
-BLINK_TSAN_STORES(session_replace, (blink_session *it, uint64_t key, uint64_t pointer, uint32_t tries, blink_answer *answer),
+BLINK_TSAN_STORES(session_replace_try, (blink_session *it, uint64_t key, uint64_t pointer, uint32_t tries, blink_answer *answer),
                   (it, key, pointer, tries, answer))
-BLINK_TSAN_STORES(session_put, (blink_session *it, uint64_t key, uint64_t pointer, uint32_t tries, blink_answer *answer),
+BLINK_TSAN_STORES(session_put_try, (blink_session *it, uint64_t key, uint64_t pointer, uint32_t tries, blink_answer *answer),
                   (it, key, pointer, tries, answer))
-BLINK_TSAN_STORES(session_exchange,
+BLINK_TSAN_STORES(session_compare_exchange_try,
                   (blink_session *it, uint64_t key, uint64_t expected, uint64_t pointer, uint32_t tries, blink_answer *answer),
                   (it, key, expected, pointer, tries, answer))
-BLINK_TSAN_ANSWERS(session_delete, (blink_session *it, uint64_t key, uint32_t tries, blink_answer *answer), (it, key, tries, answer))
-BLINK_TSAN_ANSWERS(session_delete_exact, (blink_session *it, uint64_t key, uint64_t expected, uint32_t tries, blink_answer *answer),
+BLINK_TSAN_ANSWERS(session_remove_try, (blink_session *it, uint64_t key, uint32_t tries, blink_answer *answer), (it, key, tries, answer))
+BLINK_TSAN_ANSWERS(session_compare_remove_try, (blink_session *it, uint64_t key, uint64_t expected, uint32_t tries, blink_answer *answer),
                    (it, key, expected, tries, answer))
 BLINK_TSAN_ANSWERS(session_advance, (blink_session *it, uint32_t tries, blink_answer *answer), (it, tries, answer))
-BLINK_TSAN_ANSWERS(session_find, (blink_session *it, uint64_t key, uint32_t tries, blink_answer *answer), (it, key, tries, answer))
-BLINK_TSAN_TRIED_SCANS(session_scan, blink_session)
-BLINK_TSAN_TRIED_SCANS(session_scan_back, blink_session)
+BLINK_TSAN_ANSWERS(session_get_try, (blink_session *it, uint64_t key, uint32_t tries, blink_answer *answer), (it, key, tries, answer))
+BLINK_TSAN_TRIED_SCANS(session_scan_try, blink_session)
+BLINK_TSAN_TRIED_SCANS(session_scan_back_try, blink_session)
 BLINK_TSAN_SNAPSHOTS(session)
 
-#define blink_session_insert(...) blink_tsan_session_insert(__VA_ARGS__)
-#define blink_session_replace(...) blink_tsan_session_replace(__VA_ARGS__)
-#define blink_session_put(...) blink_tsan_session_put(__VA_ARGS__)
-#define blink_session_exchange(...) blink_tsan_session_exchange(__VA_ARGS__)
-#define blink_session_delete(...) blink_tsan_session_delete(__VA_ARGS__)
-#define blink_session_delete_exact(...) blink_tsan_session_delete_exact(__VA_ARGS__)
+#define blink_session_insert_try(...) blink_tsan_session_insert_try(__VA_ARGS__)
+#define blink_session_replace_try(...) blink_tsan_session_replace_try(__VA_ARGS__)
+#define blink_session_put_try(...) blink_tsan_session_put_try(__VA_ARGS__)
+#define blink_session_compare_exchange_try(...) blink_tsan_session_compare_exchange_try(__VA_ARGS__)
+#define blink_session_remove_try(...) blink_tsan_session_remove_try(__VA_ARGS__)
+#define blink_session_compare_remove_try(...) blink_tsan_session_compare_remove_try(__VA_ARGS__)
 #define blink_session_advance(...) blink_tsan_session_advance(__VA_ARGS__)
-#define blink_session_find(...) blink_tsan_session_find(__VA_ARGS__)
-#define blink_session_scan(...) blink_tsan_session_scan(__VA_ARGS__)
-#define blink_session_scan_back(...) blink_tsan_session_scan_back(__VA_ARGS__)
-#define blink_session_snapshot(...) blink_tsan_session_snapshot(__VA_ARGS__)
+#define blink_session_get_try(...) blink_tsan_session_get_try(__VA_ARGS__)
+#define blink_session_scan_try(...) blink_tsan_session_scan_try(__VA_ARGS__)
+#define blink_session_scan_back_try(...) blink_tsan_session_scan_back_try(__VA_ARGS__)
+#define blink_session_snapshot_try(...) blink_tsan_session_snapshot_try(__VA_ARGS__)
 
 #ifdef __cplusplus
 }

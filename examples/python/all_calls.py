@@ -194,7 +194,7 @@ def ends_what_an_exception_interrupts():
         def __getattr__(self, name):
             return getattr(library, name)
 
-        def blink_session_put(self, _handle, key, pointer, _tries, _answer):
+        def blink_session_put_try(self, _handle, key, pointer, _tries, _answer):
             self.under_way = self.under_way or (key, pointer)
             return blink.CODES["PENDING"]
 
@@ -202,7 +202,7 @@ def ends_what_an_exception_interrupts():
             if not self.under_way:
                 return blink.CODES["IDLE"]
             (key, pointer), self.under_way = self.under_way, None
-            return library.blink_session_put(handle, key, pointer, tries, answer)
+            return library.blink_session_put_try(handle, key, pointer, tries, answer)
 
     library, session = blink._library, blink.Map().join()
     blink._library, blink.time = Waits(), Interrupts()

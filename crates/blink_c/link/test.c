@@ -94,7 +94,7 @@ static void packs_an_index(void) {
     CHECK(blink_index_fan(&index) == 4 && blink_index_len(&index) == 10 && blink_index_pages(&index) == 4);
     blink_answer answer = {9, 9};
     for (uint64_t key = 1; key <= 7; key++) {
-        blink_index_delete(&index, key, &answer);
+        blink_index_remove(&index, key, &answer);
         CHECK(answer.kind == BLINK_REMOVED && answer.pointer == 10 * key);
     }
     CHECK(blink_index_len(&index) == 3 && blink_index_pages(&index) == 4);
@@ -103,19 +103,19 @@ static void packs_an_index(void) {
     refused_at = -1;
     CHECK(blink_index_compact(&index) == BLINK_DONE && blink_index_len(&index) == 3 && blink_index_pages(&index) == 1);
     uint64_t pointer = 7;
-    CHECK(blink_index_find(&index, 8, &pointer) && pointer == 80 && !blink_index_find(&index, 7, &pointer));
+    CHECK(blink_index_get(&index, 8, &pointer) && pointer == 80 && !blink_index_get(&index, 7, &pointer));
     blink_index_free(index);
 }
 
 static void looks_up(void) {
     blink_index index = index_of(4, five, 6);
     uint64_t pointer = 7;
-    CHECK(!blink_index_find(&index, 6, &pointer) && pointer == 7);
-    CHECK(blink_index_find(&index, 3, &pointer) && pointer == 30);
+    CHECK(!blink_index_get(&index, 6, &pointer) && pointer == 7);
+    CHECK(blink_index_get(&index, 3, &pointer) && pointer == 30);
     uint64_t keys[] = {9, 5, 1};
     blink_answer answers[3] = {{8, 8}, {8, 8}, {8, 8}};
-    CHECK(blink_index_find_many(&index, keys, 3, answers, 2) == BLINK_WRONG_LENGTH && answers[0].kind == 8);
-    CHECK(blink_index_find_many(&index, keys, 3, answers, 3) == BLINK_DONE);
+    CHECK(blink_index_get_many(&index, keys, 3, answers, 2) == BLINK_WRONG_LENGTH && answers[0].kind == 8);
+    CHECK(blink_index_get_many(&index, keys, 3, answers, 3) == BLINK_DONE);
     CHECK(answers[0].kind == BLINK_ABSENT && answers[0].pointer == 0);
     CHECK(answers[1].kind == BLINK_FOUND && answers[1].pointer == 50 && answers[2].pointer == 10);
     blink_entry entries[8];
@@ -170,24 +170,24 @@ static void changes_in_place(void) {
     CHECK(answer.kind == BLINK_REPLACED && answer.pointer == 60);
     blink_index_replace(&index, 9, 90, &answer);
     CHECK(answer.kind == BLINK_ABSENT && answer.pointer == 0);
-    blink_index_exchange(&index, 6, 62, 63, &answer);
+    blink_index_compare_exchange(&index, 6, 62, 63, &answer);
     CHECK(answer.kind == BLINK_REPLACED && answer.pointer == 62);
-    blink_index_exchange(&index, 6, 62, 64, &answer);
+    blink_index_compare_exchange(&index, 6, 62, 64, &answer);
     CHECK(answer.kind == BLINK_EXISTS && answer.pointer == 63);
-    blink_index_exchange(&index, 9, 90, 91, &answer);
+    blink_index_compare_exchange(&index, 9, 90, 91, &answer);
     CHECK(answer.kind == BLINK_ABSENT && answer.pointer == 0);
-    blink_index_exchange(&index, 6, 63, 62, &answer);
+    blink_index_compare_exchange(&index, 6, 63, 62, &answer);
     CHECK(answer.kind == BLINK_REPLACED && answer.pointer == 63);
-    blink_index_delete_exact(&index, 1, 11, &answer);
+    blink_index_compare_remove(&index, 1, 11, &answer);
     CHECK(answer.kind == BLINK_EXISTS && answer.pointer == 10);
-    blink_index_delete_exact(&index, 9, 90, &answer);
+    blink_index_compare_remove(&index, 9, 90, &answer);
     CHECK(answer.kind == BLINK_ABSENT && answer.pointer == 0);
     CHECK(blink_index_insert(&index, 8, 80, &answer) == BLINK_DONE && answer.kind == BLINK_INSERTED);
-    blink_index_delete_exact(&index, 8, 80, &answer);
+    blink_index_compare_remove(&index, 8, 80, &answer);
     CHECK(answer.kind == BLINK_REMOVED && answer.pointer == 80);
-    blink_index_delete(&index, 1, &answer);
+    blink_index_remove(&index, 1, &answer);
     CHECK(answer.kind == BLINK_REMOVED && answer.pointer == 10);
-    blink_index_delete(&index, 1, &answer);
+    blink_index_remove(&index, 1, &answer);
     CHECK(answer.kind == BLINK_ABSENT);
     blink_entry entry = {9, 9};
     CHECK(blink_index_first(&index, &entry) && entry.key == 2 && entry.pointer == 20);
@@ -269,28 +269,28 @@ enum { NONE = 100 }; // a pointer for the calls that take none
 // An operation by a session, to its end.
 static blink_answer changes(blink_session *session, uint64_t kind, uint64_t key, uint64_t pointer) {
     blink_answer answer = {9, 9};
-    CHECK((kind == BLINK_FIND     ? blink_session_find_wait(session, key, &answer)
-           : kind == BLINK_INSERT ? blink_session_insert_wait(session, key, pointer, &answer)
-           : kind == BLINK_DELETE ? blink_session_delete_wait(session, key, &answer)
-                                  : blink_session_replace_wait(session, key, pointer, &answer)) == BLINK_DONE);
+    CHECK((kind == BLINK_FIND     ? blink_session_get(session, key, &answer)
+           : kind == BLINK_INSERT ? blink_session_insert(session, key, pointer, &answer)
+           : kind == BLINK_DELETE ? blink_session_remove(session, key, &answer)
+                                  : blink_session_replace(session, key, pointer, &answer)) == BLINK_DONE);
     return answer;
 }
 
 static blink_answer puts_so(blink_session *session, uint64_t key, uint64_t pointer) {
     blink_answer answer = {9, 9};
-    CHECK(blink_session_put_wait(session, key, pointer, &answer) == BLINK_DONE);
+    CHECK(blink_session_put(session, key, pointer, &answer) == BLINK_DONE);
     return answer;
 }
 
 static blink_answer exchanges(blink_session *session, uint64_t key, uint64_t expected, uint64_t pointer) {
     blink_answer answer = {9, 9};
-    CHECK(blink_session_exchange_wait(session, key, expected, pointer, &answer) == BLINK_DONE);
+    CHECK(blink_session_compare_exchange(session, key, expected, pointer, &answer) == BLINK_DONE);
     return answer;
 }
 
 static blink_answer removes(blink_session *session, uint64_t key, uint64_t expected) {
     blink_answer answer = {9, 9};
-    CHECK(blink_session_delete_exact_wait(session, key, expected, &answer) == BLINK_DONE);
+    CHECK(blink_session_compare_remove(session, key, expected, &answer) == BLINK_DONE);
     return answer;
 }
 
@@ -298,7 +298,7 @@ static bool is(blink_answer answer, uint64_t kind, uint64_t pointer) { return an
 
 static bool has(blink_session *session, blink_reserve expected) {
     blink_reserve it = {9, 9, 9, 9, 9};
-    return blink_session_reserve(session, 1, &it) == BLINK_DONE && memcmp(&it, &expected, sizeof it) == 0;
+    return blink_session_reserve_try(session, 1, &it) == BLINK_DONE && memcmp(&it, &expected, sizeof it) == 0;
 }
 
 static bool has_left(blink_map *map, uint64_t rows, uint64_t pages) {
@@ -352,9 +352,9 @@ static void changes_a_map(void) {
     blink_taken taken = {9, 9};
     blink_scanned scanned = {9, 9, 9};
     refused_at = 0;
-    CHECK(blink_session_snapshot(&one, 0, 9, 1, range, 2, &taken) == BLINK_NO_MEMORY && taken.taken == 9);
+    CHECK(blink_session_snapshot_try(&one, 0, 9, 1, range, 2, &taken) == BLINK_NO_MEMORY && taken.taken == 9);
     refused_at = -1;
-    CHECK(blink_session_scan(&other, 0, 9, 1, range, 0, &scanned) == BLINK_DONE && scanned.filled == 0);
+    CHECK(blink_session_scan_try(&other, 0, 9, 1, range, 0, &scanned) == BLINK_DONE && scanned.filled == 0);
     blink_session_free(one), blink_session_free(other);
     CHECK(blink_map_close(&map, &closed) == BLINK_DONE);
     // a closed map has no session, no second handle, no room, no renewal and no second index
@@ -368,8 +368,8 @@ static void changes_a_map(void) {
     CHECK(blink_map_renew(&map, 1) == BLINK_MAP_CLOSED);
     blink_map_free(map);
     CHECK(blink_index_len(&closed) == 5 && blink_index_fan(&closed) == 4 && blink_index_len(&index) == 5);
-    CHECK(blink_index_find(&closed, 3, &pointer) && pointer == 33 && blink_index_find(&closed, 7, &pointer) && pointer == 72);
-    CHECK(blink_index_find(&closed, 5, &pointer) && pointer == 50 && !blink_index_find(&closed, 2, &pointer));
+    CHECK(blink_index_get(&closed, 3, &pointer) && pointer == 33 && blink_index_get(&closed, 7, &pointer) && pointer == 72);
+    CHECK(blink_index_get(&closed, 5, &pointer) && pointer == 50 && !blink_index_get(&closed, 2, &pointer));
     blink_index_free(closed);
     blink_index_free(index);
 }
@@ -403,14 +403,14 @@ static void changes_end_at_once(void) {
     for (uint64_t turn = 0; turn < 200000; turn++) {
         blink_answer put = {9, 9}, again = {9, 9}, other = {9, 9}, gone = {9, 9}, back = {9, 9};
         blink_answer same = {9, 9}, new = {9, 9}, over = {9, 9};
-        done += blink_session_replace(&one, 3, turn, 1, &put) == BLINK_DONE && put.kind == BLINK_REPLACED;
-        done += blink_session_exchange(&one, 3, turn, 30, 1, &again) == BLINK_DONE && is(again, BLINK_REPLACED, turn);
-        done += blink_session_delete(&one, 5, 1, &gone) == BLINK_DONE && is(gone, BLINK_REMOVED, 50);
-        done += blink_session_insert(&one, 5, 50, 1, &back) == BLINK_DONE && is(back, BLINK_INSERTED, 0);
-        done += blink_session_delete_exact(&one, 5, 50, 1, &same) == BLINK_DONE && is(same, BLINK_REMOVED, 50);
-        done += blink_session_put(&one, 5, turn, 1, &new) == BLINK_DONE && is(new, BLINK_INSERTED, 0);
-        done += blink_session_put(&one, 5, 50, 1, &over) == BLINK_DONE && is(over, BLINK_REPLACED, turn);
-        done += blink_session_delete_exact(&one, 5, turn + 51, 1, &other) == BLINK_DONE && is(other, BLINK_EXISTS, 50);
+        done += blink_session_replace_try(&one, 3, turn, 1, &put) == BLINK_DONE && put.kind == BLINK_REPLACED;
+        done += blink_session_compare_exchange_try(&one, 3, turn, 30, 1, &again) == BLINK_DONE && is(again, BLINK_REPLACED, turn);
+        done += blink_session_remove_try(&one, 5, 1, &gone) == BLINK_DONE && is(gone, BLINK_REMOVED, 50);
+        done += blink_session_insert_try(&one, 5, 50, 1, &back) == BLINK_DONE && is(back, BLINK_INSERTED, 0);
+        done += blink_session_compare_remove_try(&one, 5, 50, 1, &same) == BLINK_DONE && is(same, BLINK_REMOVED, 50);
+        done += blink_session_put_try(&one, 5, turn, 1, &new) == BLINK_DONE && is(new, BLINK_INSERTED, 0);
+        done += blink_session_put_try(&one, 5, 50, 1, &over) == BLINK_DONE && is(over, BLINK_REPLACED, turn);
+        done += blink_session_compare_remove_try(&one, 5, turn + 51, 1, &other) == BLINK_DONE && is(other, BLINK_EXISTS, 50);
     }
     CHECK(done == 1600000);
     blink_session_free(one);
@@ -438,7 +438,7 @@ static void refuses_at_a_map(void) {
     CHECK(blink_session_advance(&one, 1, &answer) == BLINK_IDLE && answer.kind == 9);
     // the first session draws 44 rows and all 22 numbers, so there are 2 rows for the second, and no number
     CHECK(is(changes(&one, BLINK_INSERT, 6, 60), BLINK_INSERTED, 0));
-    CHECK(blink_session_insert(&two, 7, 70, 100, &answer) == BLINK_FULL && blink_session_put(&two, 7, 70, 100, &answer) == BLINK_FULL);
+    CHECK(blink_session_insert_try(&two, 7, 70, 100, &answer) == BLINK_FULL && blink_session_put_try(&two, 7, 70, 100, &answer) == BLINK_FULL);
     CHECK(answer.kind == 9 && is(changes(&two, BLINK_FIND, 3, NONE), BLINK_FOUND, 30));
     // a key that is there needs no room for an insertion
     CHECK(is(changes(&two, BLINK_INSERT, 3, 33), BLINK_EXISTS, 30) && is(puts_so(&two, 3, 33), BLINK_REPLACED, 30));
@@ -446,10 +446,10 @@ static void refuses_at_a_map(void) {
     // a row that is written over comes back
     for (uint64_t pointer = 21; pointer < 1000; pointer++)
         CHECK(is(changes(&two, BLINK_REPLACE, 2, pointer), BLINK_REPLACED, pointer == 21 ? 20 : pointer - 1));
-    CHECK(blink_session_delete(&foreign, 2, 100, &answer) == BLINK_FULL && blink_session_replace(&foreign, 2, 21, 100, &answer) == BLINK_FULL);
-    CHECK(blink_session_exchange(&foreign, 2, 20, 21, 100, &answer) == BLINK_FULL);
-    CHECK(blink_session_delete_exact(&foreign, 2, 20, 100, &answer) == BLINK_FULL);
-    CHECK(blink_session_delete_wait(&foreign, 2, &answer) == BLINK_FULL && blink_session_put_wait(&foreign, 2, 21, &answer) == BLINK_FULL);
+    CHECK(blink_session_remove_try(&foreign, 2, 100, &answer) == BLINK_FULL && blink_session_replace_try(&foreign, 2, 21, 100, &answer) == BLINK_FULL);
+    CHECK(blink_session_compare_exchange_try(&foreign, 2, 20, 21, 100, &answer) == BLINK_FULL);
+    CHECK(blink_session_compare_remove_try(&foreign, 2, 20, 100, &answer) == BLINK_FULL);
+    CHECK(blink_session_remove(&foreign, 2, &answer) == BLINK_FULL && blink_session_put(&foreign, 2, 21, &answer) == BLINK_FULL);
     CHECK(answer.kind == 9 && blink_map_renew(&other, 1) == BLINK_FULL);
     // the place of a session that is freed can be taken again, with what it has drawn
     blink_session_free(two);
@@ -470,7 +470,7 @@ static void refuses_at_a_map(void) {
     blink_session_free(one);
     uint64_t pointer;
     closed = closed_with(map, 4);
-    CHECK(blink_index_find(&closed, 6, &pointer) && pointer == 60);
+    CHECK(blink_index_get(&closed, 6, &pointer) && pointer == 60);
     blink_index_free(closed);
     blink_map_free(other);
     CHECK(is(changes(&foreign, BLINK_FIND, 2, NONE), BLINK_FOUND, 20));
@@ -486,24 +486,24 @@ static void holds_a_session(void) {
     uint64_t rows = 9, pages = 9;
     CHECK(blink_map_open(&index, &map) == BLINK_DONE);
     blink_session one = session_of(&map), other = session_of(&map);
-    CHECK(blink_map_renew(&map, 1) == BLINK_DONE && blink_session_hold(&one, 1) == BLINK_DONE && blink_session_hold(&one, 1) == BLINK_DONE);
+    CHECK(blink_map_renew(&map, 1) == BLINK_DONE && blink_session_hold_try(&one, 1) == BLINK_DONE && blink_session_hold_try(&one, 1) == BLINK_DONE);
     CHECK(blink_map_renew(&map, 1) == BLINK_RENEWING && is(changes(&one, BLINK_FIND, 3, NONE), BLINK_FOUND, 30));
     CHECK(is(puts_so(&one, 6, 60), BLINK_INSERTED, 0) && is(puts_so(&other, 7, 70), BLINK_INSERTED, 0));
     CHECK(blink_map_renew(&map, 1) == BLINK_RENEWING && blink_map_room(&map, 1, &rows, &pages) == BLINK_DONE && rows > 0 && pages > 0);
     blink_session_let_go(&one);
-    CHECK(blink_map_renew(&map, 1) == BLINK_DONE && blink_session_hold_wait(&other) == BLINK_DONE);
+    CHECK(blink_map_renew(&map, 1) == BLINK_DONE && blink_session_hold(&other) == BLINK_DONE);
     CHECK(blink_map_renew(&map, 1) == BLINK_RENEWING && blink_map_close(&map, &closed) == BLINK_SESSION_MISSING);
     blink_session_let_go(&other), blink_session_let_go(&other);
     CHECK(blink_map_renew(&map, 1) == BLINK_DONE && is(changes(&one, BLINK_FIND, 7, NONE), BLINK_FOUND, 70));
     // a session that is held may be freed
-    CHECK(blink_session_hold(&one, 1) == BLINK_DONE);
+    CHECK(blink_session_hold_try(&one, 1) == BLINK_DONE);
     blink_session_free(one), blink_session_free(other);
     blink_index_free(closed_with(map, 7));
     // the room is looked up by a session that nobody holds
     map = map_with_room(&index, 300, 600, 1, true);
     one = session_of(&map);
     rows = pages = 9;
-    CHECK(blink_session_hold(&one, 1) == BLINK_DONE && blink_map_room(&map, 1, &rows, &pages) == BLINK_RENEWING && rows == 9 && pages == 9);
+    CHECK(blink_session_hold_try(&one, 1) == BLINK_DONE && blink_map_room(&map, 1, &rows, &pages) == BLINK_RENEWING && rows == 9 && pages == 9);
     blink_session_let_go(&one);
     CHECK(has_left(&map, 600, 300));
     blink_session_free(one);
@@ -557,7 +557,7 @@ static void leaves_a_put_under_way(blink_session *one, blink_session *other, uin
     int code = BLINK_DONE;
     CHECK(pthread_create(&thread, NULL, replaces_five, &it) == 0);
     for (long tries = 0; tries < 20000000 && code != BLINK_PENDING; tries++) {
-        code = blink_session_put(one, key, pointer, 1, &answer);
+        code = blink_session_put_try(one, key, pointer, 1, &answer);
         CHECK(code == BLINK_DONE || code == BLINK_PENDING || code == BLINK_ROWS_BUSY || code == refusal);
         if (code == BLINK_DONE) CHECK(is(answer, BLINK_INSERTED, 0) && is(changes(one, BLINK_DELETE, key, NONE), BLINK_REMOVED, pointer));
     }
@@ -576,34 +576,34 @@ static void refuses_under_way(bool fixed) {
     blink_entry range[2] = {{9, 9}, {9, 9}};
     blink_scanned scanned = {9, 9, 9};
     int unrenewed = fixed ? BLINK_FULL : BLINK_RENEWING;
-    CHECK(blink_session_scan_back(&one, 0, 4, 1, range, 2, &scanned) == BLINK_DONE && scanned.filled == 2 && scanned.more == 1 && scanned.next == 2);
+    CHECK(blink_session_scan_back_try(&one, 0, 4, 1, range, 2, &scanned) == BLINK_DONE && scanned.filled == 2 && scanned.more == 1 && scanned.next == 2);
     CHECK(range[0].key == 4 && range[0].pointer == 40 && range[1].key == 3 && range[1].pointer == 30);
-    CHECK(blink_session_scan(&one, 4, 9, 1, range, 2, &scanned) == BLINK_DONE && scanned.filled == 2 && scanned.more == 0);
+    CHECK(blink_session_scan_try(&one, 4, 9, 1, range, 2, &scanned) == BLINK_DONE && scanned.filled == 2 && scanned.more == 0);
     CHECK(range[0].key == 4 && range[0].pointer == 40 && range[1].key == 5 && range[1].pointer == 50);
     blink_taken snapshot = {9, 9};
-    CHECK(blink_session_snapshot(&one, 5, 9, 1, range, 2, &snapshot) == BLINK_DONE && snapshot.taken == 1 && snapshot.there == 1);
+    CHECK(blink_session_snapshot_try(&one, 5, 9, 1, range, 2, &snapshot) == BLINK_DONE && snapshot.taken == 1 && snapshot.there == 1);
     CHECK(range[0].key == 5 && range[0].pointer == 50 && range[1].key == 5);
-    CHECK(blink_session_scan(&one, 4, 9, 1, range, 2, &scanned) == BLINK_DONE && scanned.filled == 2);
+    CHECK(blink_session_scan_try(&one, 4, 9, 1, range, 2, &scanned) == BLINK_DONE && scanned.filled == 2);
     leaves_a_put_under_way(&one, &other, 9, 99, unrenewed);
+    CHECK(blink_session_snapshot_try(&one, 0, 9, 1, range, 2, &snapshot) == BLINK_PENDING && snapshot.there == 1);
     CHECK(blink_session_snapshot(&one, 0, 9, 1, range, 2, &snapshot) == BLINK_PENDING && snapshot.there == 1);
-    CHECK(blink_session_snapshot_wait(&one, 0, 9, 1, range, 2, &snapshot) == BLINK_PENDING && snapshot.there == 1);
-    CHECK(blink_session_scan(&one, 0, 9, 1, range, 2, &scanned) == BLINK_PENDING && range[0].key == 4 && scanned.filled == 2);
-    CHECK(blink_session_scan_wait(&one, 0, 9, range, 2, &scanned) == BLINK_PENDING && range[0].key == 4 && scanned.filled == 2);
-    CHECK(blink_session_scan_back(&one, 0, 9, 1, range, 2, &scanned) == BLINK_PENDING && range[0].key == 4 && scanned.filled == 2);
-    CHECK(blink_session_scan_back_wait(&one, 0, 9, range, 2, &scanned) == BLINK_PENDING && range[0].key == 4 && scanned.filled == 2);
-    CHECK(blink_session_find(&one, 3, 1, &answer) == BLINK_PENDING && blink_session_find_wait(&one, 3, &answer) == BLINK_PENDING);
-    CHECK(blink_session_insert(&one, 9, 90, 100, &answer) == BLINK_PENDING && blink_session_put(&one, 9, 90, 100, &answer) == BLINK_PENDING);
-    CHECK(blink_session_delete(&one, 3, 100, &answer) == BLINK_PENDING && blink_session_replace(&one, 3, 34, 100, &answer) == BLINK_PENDING);
-    CHECK(blink_session_exchange(&one, 3, 30, 34, 100, &answer) == BLINK_PENDING);
-    CHECK(blink_session_delete_exact(&one, 3, 30, 100, &answer) == BLINK_PENDING);
-    CHECK(blink_session_insert_wait(&one, 9, 90, &answer) == BLINK_PENDING && blink_session_put_wait(&one, 9, 90, &answer) == BLINK_PENDING);
-    CHECK(blink_session_delete_wait(&one, 3, &answer) == BLINK_PENDING && blink_session_replace_wait(&one, 3, 34, &answer) == BLINK_PENDING);
-    CHECK(blink_session_exchange_wait(&one, 3, 30, 34, &answer) == BLINK_PENDING);
-    CHECK(blink_session_delete_exact_wait(&one, 3, 30, &answer) == BLINK_PENDING);
+    CHECK(blink_session_scan_try(&one, 0, 9, 1, range, 2, &scanned) == BLINK_PENDING && range[0].key == 4 && scanned.filled == 2);
+    CHECK(blink_session_scan(&one, 0, 9, range, 2, &scanned) == BLINK_PENDING && range[0].key == 4 && scanned.filled == 2);
+    CHECK(blink_session_scan_back_try(&one, 0, 9, 1, range, 2, &scanned) == BLINK_PENDING && range[0].key == 4 && scanned.filled == 2);
+    CHECK(blink_session_scan_back(&one, 0, 9, range, 2, &scanned) == BLINK_PENDING && range[0].key == 4 && scanned.filled == 2);
+    CHECK(blink_session_get_try(&one, 3, 1, &answer) == BLINK_PENDING && blink_session_get(&one, 3, &answer) == BLINK_PENDING);
+    CHECK(blink_session_insert_try(&one, 9, 90, 100, &answer) == BLINK_PENDING && blink_session_put_try(&one, 9, 90, 100, &answer) == BLINK_PENDING);
+    CHECK(blink_session_remove_try(&one, 3, 100, &answer) == BLINK_PENDING && blink_session_replace_try(&one, 3, 34, 100, &answer) == BLINK_PENDING);
+    CHECK(blink_session_compare_exchange_try(&one, 3, 30, 34, 100, &answer) == BLINK_PENDING);
+    CHECK(blink_session_compare_remove_try(&one, 3, 30, 100, &answer) == BLINK_PENDING);
+    CHECK(blink_session_insert(&one, 9, 90, &answer) == BLINK_PENDING && blink_session_put(&one, 9, 90, &answer) == BLINK_PENDING);
+    CHECK(blink_session_remove(&one, 3, &answer) == BLINK_PENDING && blink_session_replace(&one, 3, 34, &answer) == BLINK_PENDING);
+    CHECK(blink_session_compare_exchange(&one, 3, 30, 34, &answer) == BLINK_PENDING);
+    CHECK(blink_session_compare_remove(&one, 3, 30, &answer) == BLINK_PENDING);
     blink_reserve stock = {9, 9, 9, 9, 9};
-    CHECK(blink_session_reserve(&one, 1, &stock) == BLINK_PENDING && blink_session_reserve_wait(&one, &stock) == BLINK_PENDING);
+    CHECK(blink_session_reserve_try(&one, 1, &stock) == BLINK_PENDING && blink_session_reserve(&one, &stock) == BLINK_PENDING);
     CHECK(stock.pages == 9 && stock.waiting == 9);
-    CHECK(blink_session_hold(&one, 1) == BLINK_PENDING && blink_session_hold_wait(&one) == BLINK_PENDING);
+    CHECK(blink_session_hold_try(&one, 1) == BLINK_PENDING && blink_session_hold(&one) == BLINK_PENDING);
     CHECK(blink_map_renew(&map, 1) == unrenewed && blink_map_close(&map, &closed) == BLINK_SESSION_MISSING && closed.at == NULL);
     CHECK(answer.kind == 9 && is(changes(&other, BLINK_FIND, 3, NONE), BLINK_FOUND, 30));
     CHECK(blink_session_advance(&one, 1, &answer) == BLINK_DONE && is(answer, BLINK_INSERTED, 0));
@@ -634,8 +634,8 @@ static void refuses_under_way(bool fixed) {
     blink_map_free(apart);
     uint64_t pointer;
     closed = closed_with(map, 8);
-    CHECK(blink_index_find(&closed, 7, &pointer) && pointer == 70);
-    CHECK(blink_index_find(&closed, 8, &pointer) && pointer == 81);
+    CHECK(blink_index_get(&closed, 7, &pointer) && pointer == 70);
+    CHECK(blink_index_get(&closed, 8, &pointer) && pointer == 81);
     blink_index_free(closed);
     blink_index_free(index);
 }
@@ -658,7 +658,7 @@ static void refuses_the_other_half(void) {
     blink_session_free(one);
     uint64_t pointer;
     closed = closed_with(map, 6);
-    CHECK(!blink_index_find(&closed, 9, &pointer));
+    CHECK(!blink_index_get(&closed, 9, &pointer));
     blink_index_free(closed);
     blink_index_free(index);
 }
@@ -732,7 +732,7 @@ static void shares_a_map(void) {
     blink_map_free(map);
     uint64_t pointer;
     for (uint64_t key = 0; key < SHARED; key++) {
-        CHECK(room.there[key] == (blink_index_find(&closed, key, &pointer) ? 1 : 0));
+        CHECK(room.there[key] == (blink_index_get(&closed, key, &pointer) ? 1 : 0));
         CHECK(room.there[key] == 0 || pointer % (1ull << 32) == key);
     }
     blink_index_free(closed);
@@ -779,17 +779,17 @@ static void opens_a_map_with_room(bool fixed) {
     for (uint64_t key = 1; key < 6; key++) CHECK(is(changes(&session, BLINK_INSERT, key, 10 * key), BLINK_INSERTED, 0));
     // it drew 64 page numbers, or 22 at least, and the 44 rows; the split and the new root took two numbers, and wrote three pages and the
     // prime block
-    CHECK(blink_session_reserve_wait(&session, &reserve) == BLINK_DONE && reserve.unwritten == 40);
+    CHECK(blink_session_reserve(&session, &reserve) == BLINK_DONE && reserve.unwritten == 40);
     CHECK(fixed ? reserve.pages == 62 : reserve.pages >= 20 && reserve.pages <= 62);
     if (fixed) {
-        CHECK(blink_session_insert_wait(&session, 6, 60, &answer) == BLINK_FULL && answer.kind == 9);
+        CHECK(blink_session_insert(&session, 6, 60, &answer) == BLINK_FULL && answer.kind == 9);
     } else {
         // while another session is held, the map isn't renewed; while this one is, its change lets it go for that
-        CHECK(blink_session_hold(&other, 1) == BLINK_DONE);
-        CHECK(blink_session_insert(&session, 6, 60, 1, &answer) == BLINK_RENEWING && blink_session_put(&session, 6, 60, 1, &answer) == BLINK_RENEWING);
+        CHECK(blink_session_hold_try(&other, 1) == BLINK_DONE);
+        CHECK(blink_session_insert_try(&session, 6, 60, 1, &answer) == BLINK_RENEWING && blink_session_put_try(&session, 6, 60, 1, &answer) == BLINK_RENEWING);
         CHECK(answer.kind == 9 && is(changes(&session, BLINK_FIND, 6, NONE), BLINK_ABSENT, 0));
         blink_session_let_go(&other);
-        CHECK(blink_session_hold(&session, 1) == BLINK_DONE && is(changes(&session, BLINK_INSERT, 6, 60), BLINK_INSERTED, 0));
+        CHECK(blink_session_hold_try(&session, 1) == BLINK_DONE && is(changes(&session, BLINK_INSERT, 6, 60), BLINK_INSERTED, 0));
         blink_session_let_go(&session);
         blink_session_free(other);
     }
@@ -840,11 +840,11 @@ static void *reads_all(void *at) {
     blink_scanned it = {9, 9, 9};
     blink_answer answers[3];
     for (uint64_t key = 1; key <= 3 * READ; key++) {
-        CHECK(blink_reader_find(reader, key, &pointer) == (key % 3 == 0));
+        CHECK(blink_reader_get(reader, key, &pointer) == (key % 3 == 0));
         CHECK(pointer == 10 * (key - key % 3));
     }
-    CHECK(blink_reader_find_many(reader, keys, 3, answers, 2) == BLINK_WRONG_LENGTH);
-    CHECK(blink_reader_find_many(reader, keys, 3, answers, 3) == BLINK_DONE);
+    CHECK(blink_reader_get_many(reader, keys, 3, answers, 2) == BLINK_WRONG_LENGTH);
+    CHECK(blink_reader_get_many(reader, keys, 3, answers, 3) == BLINK_DONE);
     CHECK(is(answers[0], BLINK_FOUND, 30) && is(answers[1], BLINK_ABSENT, 0) && is(answers[2], BLINK_FOUND, 90000));
     CHECK(blink_reader_first(reader, &entry) && entry.key == 3);
     for (uint64_t key = 6; key <= 3 * READ; key += 3)
@@ -895,7 +895,7 @@ static void shares_an_index(void) {
     CHECK(blink_index_insert(&index, 4, 40, &answer) == BLINK_DONE && answer.kind == BLINK_INSERTED);
     CHECK(blink_index_share(&index, &reader) == BLINK_DONE && blink_reader_len(&reader) == READ + 1);
     uint64_t pointer = 0;
-    CHECK(blink_reader_find(&reader, 4, &pointer) && pointer == 40);
+    CHECK(blink_reader_get(&reader, 4, &pointer) && pointer == 40);
     blink_reader_free(reader);
 }
 
@@ -924,14 +924,14 @@ static void needs_memory_for_a_map(bool fixed) {
     UNTIL_MADE(blink_map_share(&map, &other), other.at == NULL);
     blink_map_free(other);
     UNTIL_MADE(blink_map_join(&map, &session), session.at == NULL);
-    UNTIL_MADE(blink_session_snapshot(&session, 0, 9, 1, range, 5, &taken), taken.taken == 9);
+    UNTIL_MADE(blink_session_snapshot_try(&session, 0, 9, 1, range, 5, &taken), taken.taken == 9);
     CHECK(taken.taken == 1 && taken.there == 5 && range[4].pointer == 50);
     // key 8 splits the leaf of keys 4 to 7, which takes one of the 22 page numbers, so there is no room for key 9
     for (uint64_t key = 6; key < 9; key++) CHECK(is(changes(&session, BLINK_INSERT, key, 10 * key), BLINK_INSERTED, 0));
     if (fixed) {
-        CHECK(blink_session_insert(&session, 9, 90, 1, &answer) == BLINK_FULL && blink_map_renew(&map, 1) == BLINK_FULL);
+        CHECK(blink_session_insert_try(&session, 9, 90, 1, &answer) == BLINK_FULL && blink_map_renew(&map, 1) == BLINK_FULL);
     } else {
-        UNTIL_MADE(blink_session_insert(&session, 9, 90, 1, &answer), is(changes(&session, BLINK_FIND, 9, NONE), BLINK_ABSENT, 0));
+        UNTIL_MADE(blink_session_insert_try(&session, 9, 90, 1, &answer), is(changes(&session, BLINK_FIND, 9, NONE), BLINK_ABSENT, 0));
         UNTIL_MADE(blink_map_renew(&map, 1), is(changes(&session, BLINK_FIND, 9, NONE), BLINK_FOUND, 90));
     }
     CHECK(is(changes(&session, BLINK_FIND, 8, NONE), BLINK_FOUND, 80));

@@ -71,7 +71,7 @@ impl Session {
     pub fn get(&mut self, key: u64) -> Option<u64> {
         let mut answer = RawAnswer::NONE;
         // SAFETY: the handle is full and borrowed for writing.
-        let code = renewed(|| unsafe { sys::blink_session_find(&mut self.handle, key, TRIES, &mut answer) });
+        let code = renewed(|| unsafe { sys::blink_session_get_try(&mut self.handle, key, TRIES, &mut answer) });
         // No operation is under way between two calls; nothing else is refused.
         assert_eq!(code, 0);
         Answer::of(answer).pointer()
@@ -277,19 +277,19 @@ impl Session {
     /// the room once its rows have come back.
     pub fn insert(&mut self, key: u64, pointer: u64) -> Result<Answer, Error> {
         // SAFETY: as in `get`.
-        self.ended(|handle, tries, answer| unsafe { sys::blink_session_insert(handle, key, pointer, tries, answer) })
+        self.ended(|handle, tries, answer| unsafe { sys::blink_session_insert_try(handle, key, pointer, tries, answer) })
     }
 
     /// Takes a key away, if it is there: [`Answer::Removed`] or [`Answer::Absent`].
     pub fn remove(&mut self, key: u64) -> Result<Answer, Error> {
         // SAFETY: as in `get`.
-        self.ended(|handle, tries, answer| unsafe { sys::blink_session_delete(handle, key, tries, answer) })
+        self.ended(|handle, tries, answer| unsafe { sys::blink_session_remove_try(handle, key, tries, answer) })
     }
 
     /// Maps a key to a pointer, if the key is there: [`Answer::Replaced`] or [`Answer::Absent`].
     pub fn replace(&mut self, key: u64, pointer: u64) -> Result<Answer, Error> {
         // SAFETY: as in `get`.
-        self.ended(|handle, tries, answer| unsafe { sys::blink_session_replace(handle, key, pointer, tries, answer) })
+        self.ended(|handle, tries, answer| unsafe { sys::blink_session_replace_try(handle, key, pointer, tries, answer) })
     }
 
     /// Maps a key to `new`, if it maps to `expected`: [`Answer::Replaced`] with `expected`. Else the key stays as it was:
@@ -309,7 +309,7 @@ impl Session {
     /// ```
     pub fn compare_exchange(&mut self, key: u64, expected: u64, new: u64) -> Result<Answer, Error> {
         // SAFETY: as in `get`.
-        self.ended(|handle, tries, answer| unsafe { sys::blink_session_exchange(handle, key, expected, new, tries, answer) })
+        self.ended(|handle, tries, answer| unsafe { sys::blink_session_compare_exchange_try(handle, key, expected, new, tries, answer) })
     }
 
     /// Takes a key away, if it maps to `expected`: [`Answer::Removed`] with `expected`. Else the key stays as it was:
@@ -329,7 +329,7 @@ impl Session {
     /// ```
     pub fn compare_remove(&mut self, key: u64, expected: u64) -> Result<Answer, Error> {
         // SAFETY: as in `get`.
-        self.ended(|handle, tries, answer| unsafe { sys::blink_session_delete_exact(handle, key, expected, tries, answer) })
+        self.ended(|handle, tries, answer| unsafe { sys::blink_session_compare_remove_try(handle, key, expected, tries, answer) })
     }
 
     /// Maps a key to what `next` makes of the pointer that it maps to, or of none, in one step: when the change is made, the key maps
@@ -384,7 +384,7 @@ impl Session {
     /// ```
     pub fn put(&mut self, key: u64, pointer: u64) -> Result<Option<u64>, Error> {
         // SAFETY: as in `get`.
-        let put = self.ended(|handle, tries, answer| unsafe { sys::blink_session_put(handle, key, pointer, tries, answer) })?;
+        let put = self.ended(|handle, tries, answer| unsafe { sys::blink_session_put_try(handle, key, pointer, tries, answer) })?;
         Ok(put.pointer())
     }
 
@@ -406,7 +406,7 @@ impl Session {
     /// ```
     pub fn hold(&mut self) -> Holding<'_> {
         // SAFETY: as in `get`.
-        let code = renewed(|| unsafe { sys::blink_session_hold(&mut self.handle, TRIES) });
+        let code = renewed(|| unsafe { sys::blink_session_hold_try(&mut self.handle, TRIES) });
         // No operation is under way between two calls; nothing else is refused.
         assert_eq!(code, 0);
         Holding { session: self }
@@ -428,7 +428,7 @@ impl Session {
     pub fn reserve(&mut self) -> Reserve {
         let mut reserve = Reserve { pages: 0, unwritten: 0, free: 0, taken_out: 0, waiting: 0 };
         // SAFETY: as in `get`.
-        let code = renewed(|| unsafe { sys::blink_session_reserve(&mut self.handle, TRIES, &mut reserve) });
+        let code = renewed(|| unsafe { sys::blink_session_reserve_try(&mut self.handle, TRIES, &mut reserve) });
         // No operation is under way between two calls; nothing else is refused.
         assert_eq!(code, 0);
         reserve
@@ -463,10 +463,10 @@ impl Session {
         // SAFETY: the handle is full and this call's own.
         let code = unsafe {
             match op {
-                Op::Get(key) => sys::blink_session_find(handle, key, tries, &mut answer),
-                Op::Insert(key, pointer) => sys::blink_session_insert(handle, key, pointer, tries, &mut answer),
-                Op::Remove(key) => sys::blink_session_delete(handle, key, tries, &mut answer),
-                Op::Replace(key, pointer) => sys::blink_session_replace(handle, key, pointer, tries, &mut answer),
+                Op::Get(key) => sys::blink_session_get_try(handle, key, tries, &mut answer),
+                Op::Insert(key, pointer) => sys::blink_session_insert_try(handle, key, pointer, tries, &mut answer),
+                Op::Remove(key) => sys::blink_session_remove_try(handle, key, tries, &mut answer),
+                Op::Replace(key, pointer) => sys::blink_session_replace_try(handle, key, pointer, tries, &mut answer),
             }
         };
         begins(self, code, answer)
@@ -483,7 +483,7 @@ impl Session {
     ) -> Result<Begun, (Session, Error)> {
         let mut answer = RawAnswer::NONE;
         // SAFETY: the handle is full and this call's own.
-        let code = unsafe { sys::blink_session_exchange(&mut self.handle, key, expected, pointer, tries, &mut answer) };
+        let code = unsafe { sys::blink_session_compare_exchange_try(&mut self.handle, key, expected, pointer, tries, &mut answer) };
         begins(self, code, answer)
     }
 
@@ -492,7 +492,7 @@ impl Session {
     pub fn begin_compare_remove(mut self, key: u64, expected: u64, tries: u32) -> Result<Begun, (Session, Error)> {
         let mut answer = RawAnswer::NONE;
         // SAFETY: the handle is full and this call's own.
-        let code = unsafe { sys::blink_session_delete_exact(&mut self.handle, key, expected, tries, &mut answer) };
+        let code = unsafe { sys::blink_session_compare_remove_try(&mut self.handle, key, expected, tries, &mut answer) };
         begins(self, code, answer)
     }
 
@@ -519,7 +519,7 @@ impl Session {
     pub fn begin_put(mut self, key: u64, pointer: u64, tries: u32) -> Result<Begun, (Session, Error)> {
         let mut answer = RawAnswer::NONE;
         // SAFETY: the handle is full and this call's own.
-        let code = unsafe { sys::blink_session_put(&mut self.handle, key, pointer, tries, &mut answer) };
+        let code = unsafe { sys::blink_session_put_try(&mut self.handle, key, pointer, tries, &mut answer) };
         begins(self, code, answer)
     }
 
@@ -599,7 +599,7 @@ impl Drop for Holding<'_> {
 
 unsafe extern "C" fn scan(handle: *mut Handle, lo: u64, hi: u64, entries: *mut RawEntry, places: usize, scanned: *mut RawScanned) -> Code {
     // SAFETY: as the caller says.
-    renewed(|| unsafe { sys::blink_session_scan(handle, lo, hi, TRIES, entries, places, scanned) })
+    renewed(|| unsafe { sys::blink_session_scan_try(handle, lo, hi, TRIES, entries, places, scanned) })
 }
 
 unsafe extern "C" fn scan_back(
@@ -611,7 +611,7 @@ unsafe extern "C" fn scan_back(
     scanned: *mut RawScanned,
 ) -> Code {
     // SAFETY: as the caller says.
-    renewed(|| unsafe { sys::blink_session_scan_back(handle, lo, hi, TRIES, entries, places, scanned) })
+    renewed(|| unsafe { sys::blink_session_scan_back_try(handle, lo, hi, TRIES, entries, places, scanned) })
 }
 
 unsafe extern "C" fn take(
@@ -624,5 +624,5 @@ unsafe extern "C" fn take(
     taken: *mut RawTaken,
 ) -> Code {
     // SAFETY: as the caller says.
-    renewed(|| unsafe { sys::blink_session_snapshot(handle, lo, hi, tries, entries, places, taken) })
+    renewed(|| unsafe { sys::blink_session_snapshot_try(handle, lo, hi, tries, entries, places, taken) })
 }
