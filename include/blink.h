@@ -98,9 +98,9 @@ typedef struct { uint64_t pages, unwritten, free, taken_out, waiting; } blink_re
 
 /* The kinds of operations. */
 enum {
-    BLINK_FIND = 0,    /* looks the key up */
+    BLINK_GET = 0,    /* looks the key up */
     BLINK_INSERT = 1,  /* maps the key to the pointer, unless the key is there */
-    BLINK_DELETE = 2,  /* takes the key away, if it is there */
+    BLINK_REMOVE = 2,  /* takes the key away, if it is there */
     BLINK_REPLACE = 3  /* maps the key to the pointer, if the key is there */
 };
 

@@ -46,7 +46,7 @@ static void uses_an_index() {
     std::uint32_t before = copy.pages();
     copy.compact();
     CHECK(copy.pages() < before && copy.size() == 1001);
-    answers = copy.run({{BLINK_FIND, 5, 0}, {BLINK_DELETE, 5, 0}});
+    answers = copy.run({{BLINK_GET, 5, 0}, {BLINK_REMOVE, 5, 0}});
     CHECK(is(answers[0], BLINK_FOUND, 53) && is(answers[1], BLINK_REMOVED, 53) && !copy.find(5));
     auto [some, code] = copy.apply({{BLINK_INSERT, 1, 10}, {9, 2, 20}});
     CHECK(some.size() == 1 && is(some[0], BLINK_INSERTED, 0) && code == BLINK_UNKNOWN_OPERATION);

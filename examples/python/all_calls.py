@@ -31,8 +31,9 @@ def compares_with_the_header(folder):
     text = re.sub(r"/\*.*?\*/", "", (folder / "blink.h").read_text(), flags=re.S)
     numbers = {name: int(value) for name, value in re.findall(r"^    BLINK_(\w+) = (\d+)", text, re.M)}
     assert {name: numbers.get(name) for name in blink.CODES} == blink.CODES
-    names = "FIND INSERT DELETE REPLACE ABSENT FOUND INSERTED EXISTS REMOVED REPLACED".split()
-    assert all(getattr(blink, name) == numbers[name] for name in names)
+    names = "GET INSERT REMOVE REPLACE ABSENT FOUND INSERTED EXISTS REMOVED REPLACED".split()
+    python_names = {"GET": "FIND", "REMOVE": "DELETE"}
+    assert all(getattr(blink, python_names.get(name, name)) == numbers[name] for name in names)
     assert set(numbers) == set(blink.CODES) | set(names)
     prototypes = {
         name: (result.strip(), [re.sub(r"\bconst |\w+$", "", it.strip()).replace(" ", "") for it in parameters.split(",")])

@@ -82,8 +82,8 @@ code() { sed -n "s/^code_of[a-z_]* (*$2[ a-z)]* *= \([0-9]*\)$/\1/p" "$here/$1";
 {
     echo '#include "blink.h"'
     cat "$work/prototypes"
-    for it in FIND INSERT DELETE REPLACE ABSENT FOUND INSERTED EXISTS REMOVED REPLACED; do
-        number "BLINK_$it" "$(constant ../blink_owners/src/raw.rt $it)"
+    for it in GET:FIND REMOVE:DELETE INSERT REPLACE ABSENT FOUND INSERTED EXISTS REMOVED REPLACED; do
+        number "BLINK_${it%:*}" "$(constant ../blink_owners/src/raw.rt "${it#*:}")"
     done
     number BLINK_DONE "$(constant ../blink_owners/src/refusal.rt DONE)"
     number BLINK_BATCH_LIMIT "$(constant ../blink_batch/src/batch.rt BATCH_LIMIT)"

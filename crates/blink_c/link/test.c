@@ -201,7 +201,7 @@ static void changes_in_place(void) {
     CHECK(blink_index_at_most(&index, UINT64_MAX, &entry) && entry.key == 6 && entry.pointer == 62);
     CHECK(!blink_index_at_most(&index, 1, &entry) && entry.key == 6);
     // the third operation is of no kind, so two are carried out
-    blink_operation all[] = {{BLINK_INSERT, 7, 70}, {BLINK_FIND, 7, 0}, {4, 0, 0}, {BLINK_DELETE, 7, 0}};
+    blink_operation all[] = {{BLINK_INSERT, 7, 70}, {BLINK_GET, 7, 0}, {4, 0, 0}, {BLINK_REMOVE, 7, 0}};
     blink_answer given[4] = {{9, 9}, {9, 9}, {9, 9}, {9, 9}};
     size_t carried_out = 9;
     CHECK(blink_index_apply(&index, all, 4, given, 3, &carried_out) == BLINK_WRONG_LENGTH && carried_out == 0);
@@ -244,13 +244,13 @@ static void changes_nothing_without_memory(void) {
 
 static void runs_batches(void) {
     blink_index index = index_of(4, five, 6);
-    blink_operation all[] = {{BLINK_INSERT, 7, 70}, {BLINK_INSERT, 7, 71}, {BLINK_FIND, 7, 0},     {BLINK_REPLACE, 7, 72},
-                             {BLINK_DELETE, 7, 0},  {BLINK_DELETE, 7, 0},  {BLINK_REPLACE, 7, 73}, {BLINK_FIND, 5, 0}};
+    blink_operation all[] = {{BLINK_INSERT, 7, 70}, {BLINK_INSERT, 7, 71}, {BLINK_GET, 7, 0},     {BLINK_REPLACE, 7, 72},
+                             {BLINK_REMOVE, 7, 0},  {BLINK_REMOVE, 7, 0},  {BLINK_REPLACE, 7, 73}, {BLINK_GET, 5, 0}};
     blink_answer given[8] = {{9, 9}};
     CHECK(blink_index_run(&index, all, 8, given, 7) == BLINK_WRONG_LENGTH);
     all[7].kind = 4;
     CHECK(blink_index_run(&index, all, 8, given, 8) == BLINK_UNKNOWN_OPERATION && given[0].kind == 9);
-    all[7].kind = BLINK_FIND;
+    all[7].kind = BLINK_GET;
     static blink_operation many[BLINK_BATCH_LIMIT + 1];
     static blink_answer places[BLINK_BATCH_LIMIT + 1];
     CHECK(blink_index_run(&index, many, BLINK_BATCH_LIMIT + 1, places, BLINK_BATCH_LIMIT + 1) == BLINK_TOO_MANY);
@@ -269,9 +269,9 @@ enum { NONE = 100 }; // a pointer for the calls that take none
 // An operation by a session, to its end.
 static blink_answer changes(blink_session *session, uint64_t kind, uint64_t key, uint64_t pointer) {
     blink_answer answer = {9, 9};
-    CHECK((kind == BLINK_FIND     ? blink_session_get(session, key, &answer)
+    CHECK((kind == BLINK_GET     ? blink_session_get(session, key, &answer)
            : kind == BLINK_INSERT ? blink_session_insert(session, key, pointer, &answer)
-           : kind == BLINK_DELETE ? blink_session_remove(session, key, &answer)
+           : kind == BLINK_REMOVE ? blink_session_remove(session, key, &answer)
                                   : blink_session_replace(session, key, pointer, &answer)) == BLINK_DONE);
     return answer;
 }
@@ -332,21 +332,21 @@ static void changes_a_map(void) {
     blink_map map = map_with_room(&index, 300, 600, 2, true);
     CHECK(has_left(&map, 600, 300));
     blink_session one = session_of(&map), other = session_of(&map);
-    CHECK(is(changes(&one, BLINK_FIND, 3, NONE), BLINK_FOUND, 30) && is(changes(&one, BLINK_FIND, 6, NONE), BLINK_ABSENT, 0));
+    CHECK(is(changes(&one, BLINK_GET, 3, NONE), BLINK_FOUND, 30) && is(changes(&one, BLINK_GET, 6, NONE), BLINK_ABSENT, 0));
     CHECK(has(&one, (blink_reserve){0, 0, 0, 0, 0}));
     CHECK(is(changes(&one, BLINK_INSERT, 6, 60), BLINK_INSERTED, 0) && is(changes(&one, BLINK_INSERT, 6, 61), BLINK_EXISTS, 60));
     // of two sessions it has drawn 64 numbers, and a quarter of the pool's rows, and its insertion was appended to the leaf's row
     CHECK(has(&one, (blink_reserve){64, 150, 0, 0, 0}) && has_left(&map, 450, 236));
     CHECK(is(changes(&one, BLINK_REPLACE, 6, 62), BLINK_REPLACED, 60) && is(changes(&one, BLINK_REPLACE, 7, 70), BLINK_ABSENT, 0));
-    CHECK(is(changes(&one, BLINK_DELETE, 2, NONE), BLINK_REMOVED, 20) && is(changes(&one, BLINK_DELETE, 2, NONE), BLINK_ABSENT, 0));
+    CHECK(is(changes(&one, BLINK_REMOVE, 2, NONE), BLINK_REMOVED, 20) && is(changes(&one, BLINK_REMOVE, 2, NONE), BLINK_ABSENT, 0));
     CHECK(is(puts_so(&one, 7, 71), BLINK_INSERTED, 0) && is(puts_so(&one, 7, 72), BLINK_REPLACED, 71));
-    CHECK(is(puts_so(&one, 3, 33), BLINK_REPLACED, 30) && is(changes(&one, BLINK_FIND, 3, NONE), BLINK_FOUND, 33));
+    CHECK(is(puts_so(&one, 3, 33), BLINK_REPLACED, 30) && is(changes(&one, BLINK_GET, 3, NONE), BLINK_FOUND, 33));
     CHECK(is(exchanges(&one, 7, 72, 73), BLINK_REPLACED, 72) && is(exchanges(&one, 7, 72, 74), BLINK_EXISTS, 73));
     CHECK(is(exchanges(&one, 7, 73, 72), BLINK_REPLACED, 73) && is(exchanges(&one, 9, 0, 90), BLINK_ABSENT, 0));
     CHECK(is(removes(&one, 4, 41), BLINK_EXISTS, 40) && is(removes(&one, 9, 90), BLINK_ABSENT, 0));
     CHECK(is(puts_so(&one, 8, 80), BLINK_INSERTED, 0) && is(removes(&one, 8, 80), BLINK_REMOVED, 80));
-    CHECK(is(changes(&other, BLINK_FIND, 7, NONE), BLINK_FOUND, 72) && is(changes(&other, BLINK_FIND, 2, NONE), BLINK_ABSENT, 0));
-    CHECK(is(changes(&other, BLINK_DELETE, 6, NONE), BLINK_REMOVED, 62));
+    CHECK(is(changes(&other, BLINK_GET, 7, NONE), BLINK_FOUND, 72) && is(changes(&other, BLINK_GET, 2, NONE), BLINK_ABSENT, 0));
+    CHECK(is(changes(&other, BLINK_REMOVE, 6, NONE), BLINK_REMOVED, 62));
     // a snapshot that is refused memory, and a scan into no place, leave the session at rest: the map closes
     blink_entry range[2];
     blink_taken taken = {9, 9};
@@ -439,10 +439,10 @@ static void refuses_at_a_map(void) {
     // the first session draws 44 rows and all 22 numbers, so there are 2 rows for the second, and no number
     CHECK(is(changes(&one, BLINK_INSERT, 6, 60), BLINK_INSERTED, 0));
     CHECK(blink_session_insert_try(&two, 7, 70, 100, &answer) == BLINK_FULL && blink_session_put_try(&two, 7, 70, 100, &answer) == BLINK_FULL);
-    CHECK(answer.kind == 9 && is(changes(&two, BLINK_FIND, 3, NONE), BLINK_FOUND, 30));
+    CHECK(answer.kind == 9 && is(changes(&two, BLINK_GET, 3, NONE), BLINK_FOUND, 30));
     // a key that is there needs no room for an insertion
     CHECK(is(changes(&two, BLINK_INSERT, 3, 33), BLINK_EXISTS, 30) && is(puts_so(&two, 3, 33), BLINK_REPLACED, 30));
-    CHECK(is(changes(&two, BLINK_REPLACE, 3, 31), BLINK_REPLACED, 33) && is(changes(&two, BLINK_DELETE, 1, NONE), BLINK_REMOVED, 10));
+    CHECK(is(changes(&two, BLINK_REPLACE, 3, 31), BLINK_REPLACED, 33) && is(changes(&two, BLINK_REMOVE, 1, NONE), BLINK_REMOVED, 10));
     // a row that is written over comes back
     for (uint64_t pointer = 21; pointer < 1000; pointer++)
         CHECK(is(changes(&two, BLINK_REPLACE, 2, pointer), BLINK_REPLACED, pointer == 21 ? 20 : pointer - 1));
@@ -454,26 +454,26 @@ static void refuses_at_a_map(void) {
     // the place of a session that is freed can be taken again, with what it has drawn
     blink_session_free(two);
     two = session_of(&map);
-    CHECK(is(changes(&two, BLINK_DELETE, 2, NONE), BLINK_REMOVED, 999));
+    CHECK(is(changes(&two, BLINK_REMOVE, 2, NONE), BLINK_REMOVED, 999));
     blink_session_free(two);
     // another handle of a map that isn't freed: the close is refused, and both handles stay
     blink_map again = {NULL};
     CHECK(blink_map_share(&map, &again) == BLINK_DONE);
     CHECK(blink_map_close(&map, &closed) == BLINK_SESSION_MISSING && closed.at == NULL);
     two = session_of(&again);
-    CHECK(is(changes(&two, BLINK_FIND, 6, NONE), BLINK_FOUND, 60));
+    CHECK(is(changes(&two, BLINK_GET, 6, NONE), BLINK_FOUND, 60));
     blink_session_free(two);
     blink_map_free(again);
     // a session that isn't freed: the close is refused, and succeeds once it is
     CHECK(blink_map_close(&map, &closed) == BLINK_SESSION_MISSING && closed.at == NULL);
-    CHECK(is(changes(&one, BLINK_FIND, 6, NONE), BLINK_FOUND, 60));
+    CHECK(is(changes(&one, BLINK_GET, 6, NONE), BLINK_FOUND, 60));
     blink_session_free(one);
     uint64_t pointer;
     closed = closed_with(map, 4);
     CHECK(blink_index_get(&closed, 6, &pointer) && pointer == 60);
     blink_index_free(closed);
     blink_map_free(other);
-    CHECK(is(changes(&foreign, BLINK_FIND, 2, NONE), BLINK_FOUND, 20));
+    CHECK(is(changes(&foreign, BLINK_GET, 2, NONE), BLINK_FOUND, 20));
     blink_session_free(foreign);
     blink_index_free(index);
 }
@@ -487,14 +487,14 @@ static void holds_a_session(void) {
     CHECK(blink_map_open(&index, &map) == BLINK_DONE);
     blink_session one = session_of(&map), other = session_of(&map);
     CHECK(blink_map_renew(&map, 1) == BLINK_DONE && blink_session_hold_try(&one, 1) == BLINK_DONE && blink_session_hold_try(&one, 1) == BLINK_DONE);
-    CHECK(blink_map_renew(&map, 1) == BLINK_RENEWING && is(changes(&one, BLINK_FIND, 3, NONE), BLINK_FOUND, 30));
+    CHECK(blink_map_renew(&map, 1) == BLINK_RENEWING && is(changes(&one, BLINK_GET, 3, NONE), BLINK_FOUND, 30));
     CHECK(is(puts_so(&one, 6, 60), BLINK_INSERTED, 0) && is(puts_so(&other, 7, 70), BLINK_INSERTED, 0));
     CHECK(blink_map_renew(&map, 1) == BLINK_RENEWING && blink_map_room(&map, 1, &rows, &pages) == BLINK_DONE && rows > 0 && pages > 0);
     blink_session_let_go(&one);
     CHECK(blink_map_renew(&map, 1) == BLINK_DONE && blink_session_hold(&other) == BLINK_DONE);
     CHECK(blink_map_renew(&map, 1) == BLINK_RENEWING && blink_map_close(&map, &closed) == BLINK_SESSION_MISSING);
     blink_session_let_go(&other), blink_session_let_go(&other);
-    CHECK(blink_map_renew(&map, 1) == BLINK_DONE && is(changes(&one, BLINK_FIND, 7, NONE), BLINK_FOUND, 70));
+    CHECK(blink_map_renew(&map, 1) == BLINK_DONE && is(changes(&one, BLINK_GET, 7, NONE), BLINK_FOUND, 70));
     // a session that is held may be freed
     CHECK(blink_session_hold_try(&one, 1) == BLINK_DONE);
     blink_session_free(one), blink_session_free(other);
@@ -559,7 +559,7 @@ static void leaves_a_put_under_way(blink_session *one, blink_session *other, uin
     for (long tries = 0; tries < 20000000 && code != BLINK_PENDING; tries++) {
         code = blink_session_put_try(one, key, pointer, 1, &answer);
         CHECK(code == BLINK_DONE || code == BLINK_PENDING || code == BLINK_ROWS_BUSY || code == refusal);
-        if (code == BLINK_DONE) CHECK(is(answer, BLINK_INSERTED, 0) && is(changes(one, BLINK_DELETE, key, NONE), BLINK_REMOVED, pointer));
+        if (code == BLINK_DONE) CHECK(is(answer, BLINK_INSERTED, 0) && is(changes(one, BLINK_REMOVE, key, NONE), BLINK_REMOVED, pointer));
     }
     pthread_mutex_lock(&it.lock);
     it.stops = true;
@@ -605,27 +605,27 @@ static void refuses_under_way(bool fixed) {
     CHECK(stock.pages == 9 && stock.waiting == 9);
     CHECK(blink_session_hold_try(&one, 1) == BLINK_PENDING && blink_session_hold(&one) == BLINK_PENDING);
     CHECK(blink_map_renew(&map, 1) == unrenewed && blink_map_close(&map, &closed) == BLINK_SESSION_MISSING && closed.at == NULL);
-    CHECK(answer.kind == 9 && is(changes(&other, BLINK_FIND, 3, NONE), BLINK_FOUND, 30));
+    CHECK(answer.kind == 9 && is(changes(&other, BLINK_GET, 3, NONE), BLINK_FOUND, 30));
     CHECK(blink_session_advance(&one, 1, &answer) == BLINK_DONE && is(answer, BLINK_INSERTED, 0));
-    CHECK(blink_session_advance(&one, 1, &answer) == BLINK_IDLE && is(changes(&one, BLINK_FIND, 9, NONE), BLINK_FOUND, 99));
+    CHECK(blink_session_advance(&one, 1, &answer) == BLINK_IDLE && is(changes(&one, BLINK_GET, 9, NONE), BLINK_FOUND, 99));
     CHECK(blink_map_renew(&map, 1) == (fixed ? BLINK_FULL : BLINK_DONE));
     // where another session inserts the key meanwhile, the put replaces it; where it deletes it again, the put inserts
     leaves_a_put_under_way(&one, &other, 8, 80, unrenewed);
     CHECK(is(changes(&other, BLINK_INSERT, 8, 85), BLINK_INSERTED, 0));
     CHECK(blink_session_finish(&one, &answer) == BLINK_DONE && is(answer, BLINK_REPLACED, 85));
-    CHECK(is(changes(&other, BLINK_DELETE, 8, NONE), BLINK_REMOVED, 80));
+    CHECK(is(changes(&other, BLINK_REMOVE, 8, NONE), BLINK_REMOVED, 80));
     leaves_a_put_under_way(&one, &other, 8, 81, unrenewed);
-    CHECK(is(changes(&other, BLINK_INSERT, 8, 85), BLINK_INSERTED, 0) && is(changes(&other, BLINK_DELETE, 8, NONE), BLINK_REMOVED, 85));
+    CHECK(is(changes(&other, BLINK_INSERT, 8, 85), BLINK_INSERTED, 0) && is(changes(&other, BLINK_REMOVE, 8, NONE), BLINK_REMOVED, 85));
     CHECK(blink_session_finish(&one, &answer) == BLINK_DONE && is(answer, BLINK_INSERTED, 0));
-    CHECK(is(changes(&other, BLINK_FIND, 8, NONE), BLINK_FOUND, 81));
+    CHECK(is(changes(&other, BLINK_GET, 8, NONE), BLINK_FOUND, 81));
     CHECK(blink_session_finish(&one, &answer) == BLINK_IDLE);
     // a session that is freed under way: the put is made, whichever half of it is under way, and its place can be taken again
     for (uint64_t turn = 0; turn < 20; turn++) {
         leaves_a_put_under_way(&one, &other, 7, 70 + turn, unrenewed);
         blink_session_free(one);
         one = session_of(&map);
-        CHECK(is(changes(&one, BLINK_FIND, 7, NONE), BLINK_FOUND, 70 + turn));
-        CHECK(is(changes(&other, BLINK_DELETE, 7, NONE), BLINK_REMOVED, 70 + turn));
+        CHECK(is(changes(&one, BLINK_GET, 7, NONE), BLINK_FOUND, 70 + turn));
+        CHECK(is(changes(&other, BLINK_REMOVE, 7, NONE), BLINK_REMOVED, 70 + turn));
     }
     // the same where another session has inserted the key meanwhile, so that the put's insertion gives way to a replacement
     leaves_a_put_under_way(&one, &other, 7, 70, unrenewed);
@@ -651,7 +651,7 @@ static void refuses_the_other_half(void) {
     CHECK(is(changes(&one, BLINK_INSERT, 6, 60), BLINK_INSERTED, 0));
     leaves_a_put_under_way(&two, &one, 9, 90, BLINK_FULL);
     CHECK(blink_session_finish(&two, &answer) == BLINK_FULL && answer.kind == 9);
-    CHECK(blink_session_advance(&two, 1, &answer) == BLINK_IDLE && is(changes(&two, BLINK_FIND, 9, NONE), BLINK_ABSENT, 0));
+    CHECK(blink_session_advance(&two, 1, &answer) == BLINK_IDLE && is(changes(&two, BLINK_GET, 9, NONE), BLINK_ABSENT, 0));
     leaves_a_put_under_way(&two, &one, 9, 90, BLINK_FULL);
     blink_session_free(two);
     CHECK(is(changes(&one, BLINK_INSERT, 5, 51), BLINK_EXISTS, 50));
@@ -672,7 +672,7 @@ static void outlives_its_map(void) {
     for (int turn = 0; turn < 100; turn++) {
         map = map_with_room(&index, 0, 0, 2, turn % 2);
         blink_session other = session_of(&map);
-        CHECK(is(changes(&session, BLINK_FIND, 3, NONE), BLINK_FOUND, 30) && is(changes(&other, BLINK_FIND, 3, NONE), BLINK_FOUND, 30));
+        CHECK(is(changes(&session, BLINK_GET, 3, NONE), BLINK_FOUND, 30) && is(changes(&other, BLINK_GET, 3, NONE), BLINK_FOUND, 30));
         blink_session_free(other), blink_map_free(map);
     }
     blink_session_free(session);
@@ -787,17 +787,17 @@ static void opens_a_map_with_room(bool fixed) {
         // while another session is held, the map isn't renewed; while this one is, its change lets it go for that
         CHECK(blink_session_hold_try(&other, 1) == BLINK_DONE);
         CHECK(blink_session_insert_try(&session, 6, 60, 1, &answer) == BLINK_RENEWING && blink_session_put_try(&session, 6, 60, 1, &answer) == BLINK_RENEWING);
-        CHECK(answer.kind == 9 && is(changes(&session, BLINK_FIND, 6, NONE), BLINK_ABSENT, 0));
+        CHECK(answer.kind == 9 && is(changes(&session, BLINK_GET, 6, NONE), BLINK_ABSENT, 0));
         blink_session_let_go(&other);
         CHECK(blink_session_hold_try(&session, 1) == BLINK_DONE && is(changes(&session, BLINK_INSERT, 6, 60), BLINK_INSERTED, 0));
         blink_session_let_go(&session);
         blink_session_free(other);
     }
-    CHECK(is(changes(&session, BLINK_FIND, 6, NONE), fixed ? BLINK_ABSENT : BLINK_FOUND, fixed ? 0 : 60));
+    CHECK(is(changes(&session, BLINK_GET, 6, NONE), fixed ? BLINK_ABSENT : BLINK_FOUND, fixed ? 0 : 60));
     CHECK(blink_map_renew(&map, 1) == (fixed ? BLINK_FULL : BLINK_DONE));
     CHECK(is(changes(&session, BLINK_INSERT, 5, 51), BLINK_EXISTS, 50) && is(puts_so(&session, 5, 52), BLINK_REPLACED, 50));
-    CHECK(is(changes(&session, BLINK_DELETE, 1, NONE), BLINK_REMOVED, 10));
-    CHECK(is(changes(&session, BLINK_FIND, 5, NONE), BLINK_FOUND, 52) && is(changes(&session, BLINK_FIND, 1, NONE), BLINK_ABSENT, 0));
+    CHECK(is(changes(&session, BLINK_REMOVE, 1, NONE), BLINK_REMOVED, 10));
+    CHECK(is(changes(&session, BLINK_GET, 5, NONE), BLINK_FOUND, 52) && is(changes(&session, BLINK_GET, 1, NONE), BLINK_ABSENT, 0));
     blink_session_free(session);
     blink_index_free(closed_with(map, fixed ? 4 : 5));
     blink_index_free(index);
@@ -809,7 +809,7 @@ static void *grows_from_nothing(void *at) {
     uint64_t first = (uint64_t)(uintptr_t)session.at;
     for (uint64_t key = 0; key < 5000; key++) {
         puts_so(&session, key, first);
-        CHECK(changes(&session, BLINK_FIND, key, NONE).kind == BLINK_FOUND);
+        CHECK(changes(&session, BLINK_GET, key, NONE).kind == BLINK_FOUND);
     }
     blink_session_free(session);
     blink_map_free(*map);
@@ -931,10 +931,10 @@ static void needs_memory_for_a_map(bool fixed) {
     if (fixed) {
         CHECK(blink_session_insert_try(&session, 9, 90, 1, &answer) == BLINK_FULL && blink_map_renew(&map, 1) == BLINK_FULL);
     } else {
-        UNTIL_MADE(blink_session_insert_try(&session, 9, 90, 1, &answer), is(changes(&session, BLINK_FIND, 9, NONE), BLINK_ABSENT, 0));
-        UNTIL_MADE(blink_map_renew(&map, 1), is(changes(&session, BLINK_FIND, 9, NONE), BLINK_FOUND, 90));
+        UNTIL_MADE(blink_session_insert_try(&session, 9, 90, 1, &answer), is(changes(&session, BLINK_GET, 9, NONE), BLINK_ABSENT, 0));
+        UNTIL_MADE(blink_map_renew(&map, 1), is(changes(&session, BLINK_GET, 9, NONE), BLINK_FOUND, 90));
     }
-    CHECK(is(changes(&session, BLINK_FIND, 8, NONE), BLINK_FOUND, 80));
+    CHECK(is(changes(&session, BLINK_GET, 8, NONE), BLINK_FOUND, 80));
     blink_session_free(session);
     UNTIL_MADE(blink_map_close(&map, &closed), closed.at == NULL);
     CHECK(blink_index_len(&closed) == (fixed ? 8 : 9));
