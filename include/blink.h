@@ -452,16 +452,15 @@ static inline int blink_map_share(blink_map *map, blink_map *out);
  * if a close of the map has begun; otherwise only if each place was taken. */
 static inline int blink_map_join(blink_map *map, blink_session *out);
 
-/* Stores how many rows and page numbers the map's pool has left, for a look: sessions may draw at any time, and the map may be renewed. It
- * looks `looks` times for a session that is in no call, and not held. The rows come first here, and the page numbers first in
- * blink_map_open_with_room. Tested: it stores what there is. Refused: BLINK_RENEWING, if it found no such session, or the map was being
+/* Stores how many page numbers and rows the map's pool has left, for a look: sessions may draw at any time, and the map may be renewed. It
+ * looks `looks` times for a session that is in no call, and not held. Tested: it stores what there is. Refused: BLINK_RENEWING, if it found no such session, or the map was being
  * renewed; BLINK_MAP_CLOSED, if a close of the map has begun; then both stay as they were. */
-static inline int blink_map_room(blink_map *map, uint32_t looks, uint64_t *rows, uint64_t *pages);
+static inline int blink_map_room(blink_map *map, uint32_t looks, uint64_t *pages, uint64_t *rows);
 
 /* The same three, where no other call uses the handle `map` at the same time. */
 int blink_map_share_alone(blink_map *map, blink_map *out);
 int blink_map_join_alone(blink_map *map, blink_session *out);
-int blink_map_room_alone(blink_map *map, uint32_t looks, uint64_t *rows, uint64_t *pages);
+int blink_map_room_alone(blink_map *map, uint32_t looks, uint64_t *pages, uint64_t *rows);
 
 /* Takes the pointer out of a handle, which the caller puts back. Until then this waits in other threads. For the functions below. */
 static inline blink_map blink_map_taken(blink_map *map) {
@@ -485,9 +484,9 @@ static inline int blink_map_join(blink_map *map, blink_session *out) {
     return code;
 }
 
-static inline int blink_map_room(blink_map *map, uint32_t looks, uint64_t *rows, uint64_t *pages) {
+static inline int blink_map_room(blink_map *map, uint32_t looks, uint64_t *pages, uint64_t *rows) {
     blink_map taken = blink_map_taken(map);
-    int code = blink_map_room_alone(&taken, looks, rows, pages);
+    int code = blink_map_room_alone(&taken, looks, pages, rows);
     __atomic_store_n(&map->at, taken.at, __ATOMIC_RELEASE);
     return code;
 }

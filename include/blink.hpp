@@ -436,7 +436,7 @@ public:
     // Error BLINK_RENEWING, if each session is held or in a call, or the map is being renewed.
     Left room() {
         Left left{0, 0};
-        detail::check(blink_map_room(&handle_, BLINK_TRIES, &left.rows, &left.pages));
+        detail::check(blink_map_room(&handle_, BLINK_TRIES, &left.pages, &left.rows));
         return left;
     }
     // Renews it in good time. Error BLINK_RENEWING, if a session is held or in a call at each of so many looks, leaves it as it was. No

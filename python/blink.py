@@ -622,8 +622,8 @@ class Map(_Owner):
 
     def room(self):
         """What the pool has left: page numbers, and rows. Error RENEWING, if each session is held or in a call, or the map is being renewed."""
-        rows, pages = ctypes.c_uint64(), ctypes.c_uint64()
-        _check(self._call("room_alone", _TRIES, rows, pages))
+        pages, rows = ctypes.c_uint64(), ctypes.c_uint64()
+        _check(self._call("room_alone", _TRIES, pages, rows))
         return pages.value, rows.value
 
     def renew(self, looks=_TRIES):

@@ -301,9 +301,9 @@ static bool has(blink_session *session, blink_reserve expected) {
     return blink_session_reserve_try(session, 1, &it) == BLINK_DONE && memcmp(&it, &expected, sizeof it) == 0;
 }
 
-static bool has_left(blink_map *map, uint64_t rows, uint64_t pages) {
-    uint64_t rows_there = 9, pages_there = 9;
-    return blink_map_room(map, 1, &rows_there, &pages_there) == BLINK_DONE && rows_there == rows && pages_there == pages;
+static bool has_left(blink_map *map, uint64_t pages, uint64_t rows) {
+    uint64_t pages_there = 9, rows_there = 9;
+    return blink_map_room(map, 1, &pages_there, &rows_there) == BLINK_DONE && pages_there == pages && rows_there == rows;
 }
 
 static blink_map map_with_room(const blink_index *index, uint32_t pages, uint32_t rows, uint32_t sessions, bool fixed) {
@@ -330,13 +330,13 @@ static blink_index closed_with(blink_map map, size_t entries) {
 static void changes_a_map(void) {
     blink_index index = index_of(4, five, 6), closed = {NULL};
     blink_map map = map_with_room(&index, 300, 600, 2, true);
-    CHECK(has_left(&map, 600, 300));
+    CHECK(has_left(&map, 300, 600));
     blink_session one = session_of(&map), other = session_of(&map);
     CHECK(is(changes(&one, BLINK_GET, 3, NONE), BLINK_FOUND, 30) && is(changes(&one, BLINK_GET, 6, NONE), BLINK_ABSENT, 0));
     CHECK(has(&one, (blink_reserve){0, 0, 0, 0, 0}));
     CHECK(is(changes(&one, BLINK_INSERT, 6, 60), BLINK_INSERTED, 0) && is(changes(&one, BLINK_INSERT, 6, 61), BLINK_EXISTS, 60));
     // of two sessions it has drawn 64 numbers, and a quarter of the pool's rows, and its insertion was appended to the leaf's row
-    CHECK(has(&one, (blink_reserve){64, 150, 0, 0, 0}) && has_left(&map, 450, 236));
+    CHECK(has(&one, (blink_reserve){64, 150, 0, 0, 0}) && has_left(&map, 236, 450));
     CHECK(is(changes(&one, BLINK_REPLACE, 6, 62), BLINK_REPLACED, 60) && is(changes(&one, BLINK_REPLACE, 7, 70), BLINK_ABSENT, 0));
     CHECK(is(changes(&one, BLINK_REMOVE, 2, NONE), BLINK_REMOVED, 20) && is(changes(&one, BLINK_REMOVE, 2, NONE), BLINK_ABSENT, 0));
     CHECK(is(puts_so(&one, 7, 71), BLINK_INSERTED, 0) && is(puts_so(&one, 7, 72), BLINK_REPLACED, 71));
@@ -364,7 +364,7 @@ static void changes_a_map(void) {
     one.at = NULL;
     CHECK(blink_map_close(&map, &again) == BLINK_MAP_CLOSED && again.at == NULL);
     CHECK(blink_map_join(&map, &one) == BLINK_NO_SESSION && blink_map_share(&map, &second) == BLINK_MAP_CLOSED && second.at == NULL);
-    CHECK(blink_map_room(&map, 1, &rows, &pages) == BLINK_MAP_CLOSED && rows == 9 && pages == 9);
+    CHECK(blink_map_room(&map, 1, &pages, &rows) == BLINK_MAP_CLOSED && rows == 9 && pages == 9);
     CHECK(blink_map_renew(&map, 1) == BLINK_MAP_CLOSED);
     blink_map_free(map);
     CHECK(blink_index_len(&closed) == 5 && blink_index_fan(&closed) == 4 && blink_index_len(&index) == 5);
@@ -489,7 +489,7 @@ static void holds_a_session(void) {
     CHECK(blink_map_renew(&map, 1) == BLINK_DONE && blink_session_hold_try(&one, 1) == BLINK_DONE && blink_session_hold_try(&one, 1) == BLINK_DONE);
     CHECK(blink_map_renew(&map, 1) == BLINK_RENEWING && is(changes(&one, BLINK_GET, 3, NONE), BLINK_FOUND, 30));
     CHECK(is(puts_so(&one, 6, 60), BLINK_INSERTED, 0) && is(puts_so(&other, 7, 70), BLINK_INSERTED, 0));
-    CHECK(blink_map_renew(&map, 1) == BLINK_RENEWING && blink_map_room(&map, 1, &rows, &pages) == BLINK_DONE && rows > 0 && pages > 0);
+    CHECK(blink_map_renew(&map, 1) == BLINK_RENEWING && blink_map_room(&map, 1, &pages, &rows) == BLINK_DONE && rows > 0 && pages > 0);
     blink_session_let_go(&one);
     CHECK(blink_map_renew(&map, 1) == BLINK_DONE && blink_session_hold(&other) == BLINK_DONE);
     CHECK(blink_map_renew(&map, 1) == BLINK_RENEWING && blink_map_close(&map, &closed) == BLINK_SESSION_MISSING);
@@ -503,9 +503,9 @@ static void holds_a_session(void) {
     map = map_with_room(&index, 300, 600, 1, true);
     one = session_of(&map);
     rows = pages = 9;
-    CHECK(blink_session_hold_try(&one, 1) == BLINK_DONE && blink_map_room(&map, 1, &rows, &pages) == BLINK_RENEWING && rows == 9 && pages == 9);
+    CHECK(blink_session_hold_try(&one, 1) == BLINK_DONE && blink_map_room(&map, 1, &pages, &rows) == BLINK_RENEWING && rows == 9 && pages == 9);
     blink_session_let_go(&one);
-    CHECK(has_left(&map, 600, 300));
+    CHECK(has_left(&map, 300, 600));
     blink_session_free(one);
     blink_index_free(closed_with(map, 5));
     blink_index_free(index);
@@ -746,7 +746,7 @@ static void *joins_again(void *at) {
         blink_session session = session_of(map);
         blink_map again = {NULL};
         uint64_t rows = 0, pages = 0;
-        int code = blink_map_room(map, BLINK_TRIES, &rows, &pages);
+        int code = blink_map_room(map, BLINK_TRIES, &pages, &rows);
         CHECK((code == BLINK_DONE && rows <= 100000 && pages <= 3000) || (code == BLINK_RENEWING && rows == 0 && pages == 0));
         CHECK(blink_map_share(map, &again) == BLINK_DONE);
         blink_map_free(again);
@@ -773,7 +773,7 @@ static void opens_a_map_with_room(bool fixed) {
     blink_map map = map_with_room(&index, 200, 44, 1, fixed);
     blink_session session = session_of(&map), other = {NULL};
     blink_answer answer = {9, 9};
-    CHECK(has(&session, (blink_reserve){0, 0, 0, 0, 0}) && has_left(&map, 44, 200));
+    CHECK(has(&session, (blink_reserve){0, 0, 0, 0, 0}) && has_left(&map, 200, 44));
     // a fixed map has the places of its room
     CHECK(blink_map_join(&map, &other) == (fixed ? BLINK_NO_SESSION : BLINK_DONE));
     for (uint64_t key = 1; key < 6; key++) CHECK(is(changes(&session, BLINK_INSERT, key, 10 * key), BLINK_INSERTED, 0));

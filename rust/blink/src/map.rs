@@ -287,7 +287,7 @@ impl Map {
     pub fn room(&self) -> Result<Left, Error> {
         let mut left = Left { pages: 0, rows: 0 };
         // SAFETY: the map's handle is full, and locked.
-        Error::check(unsafe { sys::blink_map_room_alone(&mut *self.lock(), TRIES, &mut left.rows, &mut left.pages) })?;
+        Error::check(unsafe { sys::blink_map_room_alone(&mut *self.lock(), TRIES, &mut left.pages, &mut left.rows) })?;
         Ok(left)
     }
 

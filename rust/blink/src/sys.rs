@@ -237,7 +237,7 @@ extern "C" {
     ) -> Code;
     pub(crate) fn blink_map_share_alone(map: *mut Handle, out: *mut Handle) -> Code;
     pub(crate) fn blink_map_join_alone(map: *mut Handle, out: *mut Handle) -> Code;
-    pub(crate) fn blink_map_room_alone(map: *mut Handle, looks: u32, rows: *mut u64, pages: *mut u64) -> Code;
+    pub(crate) fn blink_map_room_alone(map: *mut Handle, looks: u32, pages: *mut u64, rows: *mut u64) -> Code;
     pub(crate) fn blink_map_renew(map: *mut Handle, looks: u32) -> Code;
     pub(crate) fn blink_map_close(map: *mut Handle, out: *mut Handle) -> Code;
     pub(crate) fn blink_map_free(map: Handle);
