@@ -1,5 +1,5 @@
 """Uses each type of python/blink.py: an index, readers, and maps that threads change. It also compares what the module
-declares with include/blink.h, which is read from there or from the folder that is named. Run: all_calls.py [FOLDER]"""
+declares with the headers of include, which are read from there or from the folder that is named. Run: all_calls.py [FOLDER]"""
 
 import copy
 import ctypes
@@ -28,7 +28,8 @@ def refuses(kind, call, *values):
 
 
 def compares_with_the_header(folder):
-    text = re.sub(r"/\*.*?\*/", "", (folder / "blink.h").read_text(), flags=re.S)
+    text = "".join((folder / it).read_text() for it in ("blink.h", "blink_bindings.h"))
+    text = re.sub(r"/\*.*?\*/", "", text, flags=re.S)
     numbers = {name: int(value) for name, value in re.findall(r"^    BLINK_(\w+) = (\d+)", text, re.M)}
     assert {name: numbers.get(name) for name in blink.CODES} == blink.CODES
     names = "GET INSERT REMOVE REPLACE ABSENT FOUND INSERTED EXISTS REMOVED REPLACED".split()

@@ -170,6 +170,10 @@ static void changes_in_place(void) {
     CHECK(answer.kind == BLINK_REPLACED && answer.pointer == 60);
     blink_index_replace(&index, 9, 90, &answer);
     CHECK(answer.kind == BLINK_ABSENT && answer.pointer == 0);
+    CHECK(blink_index_put(&index, 9, 90, &answer) == BLINK_DONE && answer.kind == BLINK_INSERTED && answer.pointer == 0);
+    CHECK(blink_index_put(&index, 9, 91, &answer) == BLINK_DONE && answer.kind == BLINK_REPLACED && answer.pointer == 90);
+    blink_index_compare_remove(&index, 9, 91, &answer);
+    CHECK(answer.kind == BLINK_REMOVED && answer.pointer == 91);
     blink_index_compare_exchange(&index, 6, 62, 63, &answer);
     CHECK(answer.kind == BLINK_REPLACED && answer.pointer == 62);
     blink_index_compare_exchange(&index, 6, 62, 64, &answer);
@@ -209,6 +213,12 @@ static void changes_in_place(void) {
     CHECK(given[0].kind == BLINK_INSERTED && given[1].pointer == 70 && given[2].kind == 9 && given[3].kind == 9);
     CHECK(blink_index_apply(&index, all, 2, given, 2, &carried_out) == BLINK_DONE && carried_out == 2);
     CHECK(given[0].kind == BLINK_EXISTS && blink_index_len(&index) == 6);
+    // from both ends: the keys are 2 to 7
+    CHECK(blink_index_pop_first(&index, &entry) && entry.key == 2 && entry.pointer == 20);
+    CHECK(blink_index_pop_last(&index, &entry) && entry.key == 7 && entry.pointer == 70);
+    CHECK(blink_index_len(&index) == 4 && blink_index_first(&index, &entry) && entry.key == 3 && blink_index_last(&index, &entry) && entry.key == 6);
+    for (uint64_t key = 3; key < 7; key++) CHECK(blink_index_pop_first(&index, &entry) && entry.key == key);
+    CHECK(!blink_index_pop_first(&index, &entry) && !blink_index_pop_last(&index, &entry) && entry.key == 6 && blink_index_len(&index) == 0);
     blink_index_free(index);
     CHECK(blink_index_new(4, &index) == BLINK_DONE);
     CHECK(!blink_index_first(&index, &entry) && !blink_index_last(&index, &entry) && !blink_index_next(&index, 0, &entry));
@@ -234,6 +244,11 @@ static void changes_nothing_without_memory(void) {
         CHECK(code == BLINK_NO_MEMORY && answer.kind == 9);
         CHECK(blink_index_dump(&index, after, sizeof after, &bytes_after) == BLINK_DONE);
         CHECK(bytes_after == bytes_before && memcmp(before, after, bytes_before) == 0);
+        refused_at = 0;
+        CHECK(blink_index_put(&index, key, key, &answer) == BLINK_NO_MEMORY && answer.kind == 9);
+        refused_at = 0;
+        CHECK(blink_index_put(&index, key - 1, key - 1, &answer) == BLINK_DONE && answer.kind == BLINK_REPLACED && refused_at == 0);
+        answer.kind = 9;
         refused_at = 1;
         CHECK(blink_index_insert(&index, key, key, &answer) == BLINK_DONE && answer.kind == BLINK_INSERTED);
         refused_at = -1;
@@ -263,7 +278,6 @@ static void runs_batches(void) {
     blink_index_free(index);
 }
 
-// Ends the operation under way.
 enum { NONE = 100 }; // a pointer for the calls that take none
 
 // An operation by a session, to its end.
@@ -295,6 +309,14 @@ static blink_answer removes(blink_session *session, uint64_t key, uint64_t expec
 }
 
 static bool is(blink_answer answer, uint64_t kind, uint64_t pointer) { return answer.kind == kind && answer.pointer == pointer; }
+
+// Takes the steps of the operation under way to its end.
+static int finishes(blink_session *session, blink_answer *answer) {
+    uint32_t pauses = 0;
+    int code;
+    while ((code = blink_session_advance(session, 1, answer)) == BLINK_PENDING) blink_pause(&pauses);
+    return code;
+}
 
 static bool has(blink_session *session, blink_reserve expected) {
     blink_reserve it = {9, 9, 9, 9, 9};
@@ -450,6 +472,10 @@ static void refuses_at_a_map(void) {
     CHECK(blink_session_compare_exchange_try(&foreign, 2, 20, 21, 100, &answer) == BLINK_FULL);
     CHECK(blink_session_compare_remove_try(&foreign, 2, 20, 100, &answer) == BLINK_FULL);
     CHECK(blink_session_remove(&foreign, 2, &answer) == BLINK_FULL && blink_session_put(&foreign, 2, 21, &answer) == BLINK_FULL);
+    blink_entry it = {9, 9};
+    bool found = true;
+    CHECK(blink_session_pop_first(&foreign, &it, &found) == BLINK_FULL && blink_session_pop_last(&foreign, &it, &found) == BLINK_FULL);
+    CHECK(it.key == 9 && it.pointer == 9 && found);
     CHECK(answer.kind == 9 && blink_map_renew(&other, 1) == BLINK_FULL);
     // the place of a session that is freed can be taken again, with what it has drawn
     blink_session_free(two);
@@ -509,6 +535,95 @@ static void holds_a_session(void) {
     blink_session_free(one);
     blink_index_free(closed_with(map, 5));
     blink_index_free(index);
+}
+
+// The entries at the ends of a map and on each side of a key, how many there are, and what is taken from each end. A call that finds none
+// leaves the entry as it was.
+static void finds_what_is_near(void) {
+    enum { MANY = 200 };
+    blink_index index = index_of(4, five, 6);
+    blink_map map = {NULL};
+    blink_entry it = {9, 9};
+    bool found = false;
+    size_t count = 77;
+    CHECK(blink_map_open(&index, &map) == BLINK_DONE);
+    blink_session one = session_of(&map);
+    CHECK(blink_session_first(&one, &it, &found) == BLINK_DONE && found && it.key == 1 && it.pointer == 10);
+    CHECK(blink_session_last(&one, &it, &found) == BLINK_DONE && found && it.key == 5 && it.pointer == 50);
+    CHECK(blink_session_next(&one, 2, &it, &found) == BLINK_DONE && found && it.key == 3 && it.pointer == 30);
+    CHECK(blink_session_prev(&one, 2, &it, &found) == BLINK_DONE && found && it.key == 1 && it.pointer == 10);
+    CHECK(blink_session_at_least(&one, 2, &it, &found) == BLINK_DONE && found && it.key == 2 && it.pointer == 20);
+    CHECK(blink_session_at_most(&one, 9, &it, &found) == BLINK_DONE && found && it.key == 5 && it.pointer == 50);
+    CHECK(blink_session_next(&one, 5, &it, &found) == BLINK_DONE && !found && it.key == 5);
+    found = true;
+    CHECK(blink_session_prev(&one, 1, &it, &found) == BLINK_DONE && !found && it.key == 5);
+    found = true;
+    CHECK(blink_session_at_least(&one, 6, &it, &found) == BLINK_DONE && !found && it.key == 5);
+    found = true;
+    CHECK(blink_session_at_most(&one, 0, &it, &found) == BLINK_DONE && !found && it.key == 5);
+    // no key is above the greatest or below the least
+    CHECK(is(changes(&one, BLINK_INSERT, UINT64_MAX, 7), BLINK_INSERTED, 0) && is(changes(&one, BLINK_INSERT, 0, 8), BLINK_INSERTED, 0));
+    found = true;
+    CHECK(blink_session_next(&one, UINT64_MAX, &it, &found) == BLINK_DONE && !found && it.key == 5);
+    found = true;
+    CHECK(blink_session_prev(&one, 0, &it, &found) == BLINK_DONE && !found && it.key == 5);
+    CHECK(blink_session_next(&one, UINT64_MAX - 1, &it, &found) == BLINK_DONE && found && it.key == UINT64_MAX && it.pointer == 7);
+    CHECK(blink_session_prev(&one, 1, &it, &found) == BLINK_DONE && found && it.key == 0 && it.pointer == 8);
+    CHECK(blink_session_at_least(&one, UINT64_MAX, &it, &found) == BLINK_DONE && found && it.pointer == 7);
+    CHECK(blink_session_at_most(&one, 0, &it, &found) == BLINK_DONE && found && it.pointer == 8);
+    CHECK(blink_session_count(&one, 0, UINT64_MAX, &count) == BLINK_DONE && count == 7);
+    CHECK(blink_session_count(&one, 2, 4, &count) == BLINK_DONE && count == 3);
+    CHECK(blink_session_count(&one, 4, 2, &count) == BLINK_DONE && count == 0);
+    CHECK(blink_session_pop_first(&one, &it, &found) == BLINK_DONE && found && it.key == 0 && it.pointer == 8);
+    CHECK(blink_session_pop_last(&one, &it, &found) == BLINK_DONE && found && it.key == UINT64_MAX && it.pointer == 7);
+    for (uint64_t key = 1; key < 6; key++) CHECK(blink_session_pop_first(&one, &it, &found) == BLINK_DONE && found && it.key == key);
+    CHECK(blink_session_pop_first(&one, &it, &found) == BLINK_DONE && !found && it.key == 5);
+    found = true;
+    CHECK(blink_session_pop_last(&one, &it, &found) == BLINK_DONE && !found && it.key == 5);
+    CHECK(blink_session_first(&one, &it, &found) == BLINK_DONE && !found && blink_session_last(&one, &it, &found) == BLINK_DONE && !found);
+    CHECK(blink_session_count(&one, 0, UINT64_MAX, &count) == BLINK_DONE && count == 0);
+    // a count reads 64 entries at a time
+    for (uint64_t key = 0; key < MANY; key++) {
+        CHECK(is(changes(&one, BLINK_INSERT, 3 * key, key), BLINK_INSERTED, 0));
+        CHECK(blink_session_count(&one, 0, UINT64_MAX, &count) == BLINK_DONE && count == key + 1);
+    }
+    CHECK(blink_session_count(&one, 1, 3 * MANY - 4, &count) == BLINK_DONE && count == MANY - 2);
+    blink_session_free(one);
+    blink_index_free(closed_with(map, MANY));
+    blink_index_free(index);
+}
+
+enum { POPPING = 4, POPPED = 8000 };
+static unsigned char popped[POPPED];
+
+// Takes entries from both ends by turns, until there is none.
+static void *pops_by_turns(void *at) {
+    blink_session *session = at;
+    blink_entry it;
+    bool found = true;
+    for (int turn = 0; found; turn++) {
+        CHECK((turn % 2 ? blink_session_pop_first(session, &it, &found) : blink_session_pop_last(session, &it, &found)) == BLINK_DONE);
+        if (found) CHECK(it.pointer == it.key + 1 && __atomic_add_fetch(&popped[it.key], 1, __ATOMIC_RELAXED) == 1);
+    }
+    return NULL;
+}
+
+// Threads that pop at once: each entry is one thread's.
+static void pops_by_threads(void) {
+    static blink_entry entries[POPPED];
+    for (uint64_t key = 0; key < POPPED; key++) entries[key] = (blink_entry){key, key + 1};
+    blink_index index = index_of(32, entries, POPPED);
+    blink_map map = {NULL};
+    blink_session sessions[POPPING];
+    pthread_t threads[POPPING];
+    CHECK(blink_map_open(&index, &map) == BLINK_DONE);
+    blink_index_free(index);
+    for (int i = 0; i < POPPING; i++) sessions[i] = session_of(&map);
+    for (int i = 0; i < POPPING; i++) CHECK(pthread_create(&threads[i], NULL, pops_by_turns, &sessions[i]) == 0);
+    for (int i = 0; i < POPPING; i++) CHECK(pthread_join(threads[i], NULL) == 0);
+    for (int i = 0; i < POPPING; i++) blink_session_free(sessions[i]);
+    for (int key = 0; key < POPPED; key++) CHECK(popped[key] == 1);
+    blink_index_free(closed_with(map, 0));
 }
 
 // A map has places for 256 sessions, and each of them can insert.
@@ -604,21 +719,30 @@ static void refuses_under_way(bool fixed) {
     CHECK(blink_session_reserve_try(&one, 1, &stock) == BLINK_PENDING && blink_session_reserve(&one, &stock) == BLINK_PENDING);
     CHECK(stock.pages == 9 && stock.waiting == 9);
     CHECK(blink_session_hold_try(&one, 1) == BLINK_PENDING && blink_session_hold(&one) == BLINK_PENDING);
+    blink_entry it = {9, 9};
+    bool found = true;
+    size_t count = 77;
+    CHECK(blink_session_first(&one, &it, &found) == BLINK_PENDING && blink_session_last(&one, &it, &found) == BLINK_PENDING);
+    CHECK(blink_session_next(&one, 3, &it, &found) == BLINK_PENDING && blink_session_prev(&one, 3, &it, &found) == BLINK_PENDING);
+    CHECK(blink_session_next(&one, UINT64_MAX, &it, &found) == BLINK_PENDING && blink_session_prev(&one, 0, &it, &found) == BLINK_PENDING);
+    CHECK(blink_session_at_least(&one, 3, &it, &found) == BLINK_PENDING && blink_session_at_most(&one, 3, &it, &found) == BLINK_PENDING);
+    CHECK(blink_session_pop_first(&one, &it, &found) == BLINK_PENDING && blink_session_pop_last(&one, &it, &found) == BLINK_PENDING);
+    CHECK(blink_session_count(&one, 0, 9, &count) == BLINK_PENDING && count == 77 && it.key == 9 && it.pointer == 9 && found);
     CHECK(blink_map_renew(&map, 1) == unrenewed && blink_map_close(&map, &closed) == BLINK_SESSION_MISSING && closed.at == NULL);
     CHECK(answer.kind == 9 && is(changes(&other, BLINK_GET, 3, NONE), BLINK_FOUND, 30));
     CHECK(blink_session_advance(&one, 1, &answer) == BLINK_DONE && is(answer, BLINK_INSERTED, 0));
     CHECK(blink_session_advance(&one, 1, &answer) == BLINK_IDLE && is(changes(&one, BLINK_GET, 9, NONE), BLINK_FOUND, 99));
     CHECK(blink_map_renew(&map, 1) == (fixed ? BLINK_FULL : BLINK_DONE));
-    // where another session inserts the key meanwhile, the put replaces it; where it deletes it again, the put inserts
+    // where another session inserts the key meanwhile, the put replaces it; where it removes it again, the put inserts
     leaves_a_put_under_way(&one, &other, 8, 80, unrenewed);
     CHECK(is(changes(&other, BLINK_INSERT, 8, 85), BLINK_INSERTED, 0));
-    CHECK(blink_session_finish(&one, &answer) == BLINK_DONE && is(answer, BLINK_REPLACED, 85));
+    CHECK(finishes(&one, &answer) == BLINK_DONE && is(answer, BLINK_REPLACED, 85));
     CHECK(is(changes(&other, BLINK_REMOVE, 8, NONE), BLINK_REMOVED, 80));
     leaves_a_put_under_way(&one, &other, 8, 81, unrenewed);
     CHECK(is(changes(&other, BLINK_INSERT, 8, 85), BLINK_INSERTED, 0) && is(changes(&other, BLINK_REMOVE, 8, NONE), BLINK_REMOVED, 85));
-    CHECK(blink_session_finish(&one, &answer) == BLINK_DONE && is(answer, BLINK_INSERTED, 0));
+    CHECK(finishes(&one, &answer) == BLINK_DONE && is(answer, BLINK_INSERTED, 0));
     CHECK(is(changes(&other, BLINK_GET, 8, NONE), BLINK_FOUND, 81));
-    CHECK(blink_session_finish(&one, &answer) == BLINK_IDLE);
+    CHECK(finishes(&one, &answer) == BLINK_IDLE);
     // a session that is freed under way: the put is made, whichever half of it is under way, and its place can be taken again
     for (uint64_t turn = 0; turn < 20; turn++) {
         leaves_a_put_under_way(&one, &other, 7, 70 + turn, unrenewed);
@@ -650,7 +774,7 @@ static void refuses_the_other_half(void) {
     // the first session draws 44 rows and all 22 numbers, so there are 2 rows for the second, and no number
     CHECK(is(changes(&one, BLINK_INSERT, 6, 60), BLINK_INSERTED, 0));
     leaves_a_put_under_way(&two, &one, 9, 90, BLINK_FULL);
-    CHECK(blink_session_finish(&two, &answer) == BLINK_FULL && answer.kind == 9);
+    CHECK(finishes(&two, &answer) == BLINK_FULL && answer.kind == 9);
     CHECK(blink_session_advance(&two, 1, &answer) == BLINK_IDLE && is(changes(&two, BLINK_GET, 9, NONE), BLINK_ABSENT, 0));
     leaves_a_put_under_way(&two, &one, 9, 90, BLINK_FULL);
     blink_session_free(two);
@@ -997,6 +1121,8 @@ int main(int argc, char **argv) {
     changes_end_at_once();
     refuses_at_a_map();
     holds_a_session();
+    finds_what_is_near();
+    pops_by_threads();
     takes_each_place();
     refuses_under_way(true);
     refuses_under_way(false);
