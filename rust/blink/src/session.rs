@@ -1,14 +1,11 @@
 //! The session of a map.
 
-use crate::dropped::Dropped;
 use crate::range::{end_of, snapshot, LiveRange, Places};
-use crate::steps::{begins, Begun};
 use crate::sys::{self, Code, Handle, RawAnswer, RawEntry, RawScanned, RawTaken};
 use crate::waiting::{ended, renewed, TRIES};
-use crate::{Answer, Error, Op};
+use crate::{Answer, Error};
 use std::fmt;
 use std::ops::{Bound, Deref, DerefMut, RangeBounds};
-use std::sync::Arc;
 
 /// What a session has of its map's page numbers and rows. They are its own until it is dropped; then the next session at its
 /// place has them.
@@ -50,7 +47,6 @@ pub struct Reserve {
 /// A change that finds the map full waits while another session is [held](Session::hold), so that the map can't be renewed.
 pub struct Session {
     pub(crate) handle: Handle,
-    pub(crate) dropped: Arc<Dropped>,
     pub(crate) places: Places,
 }
 
@@ -434,95 +430,6 @@ impl Session {
         reserve
     }
 
-    /// Begins an operation and takes its first steps, which wait for nobody. Where another session has the page that it wants for
-    /// `tries` steps, it rests as an [`Unfinished`](crate::Unfinished), and the thread may do something else. A look-up ends at once. Where the
-    /// map is full, a change renews it, which takes the time of a copy of all entries.
-    ///
-    /// It is refused with [`Error::Renewing`], where the map is being renewed at so many looks, or can't be renewed since a session is held or
-    /// in a call; with [`Error::RowsBusy`], where rows of the session are on their way back; and as [`Session::insert`] is. A refusal hands
-    /// the session back, and nothing has changed.
-    ///
-    /// ```
-    /// use blink::{Answer, Begun, Map, Op};
-    ///
-    /// let map = Map::new(32)?;
-    /// let mut begun = map.session()?.begin(Op::Insert(5, 50), 10).map_err(|(_, error)| error)?;
-    /// let (mut session, answer) = loop {
-    ///     match begun {
-    ///         Begun::Ended(session, answer) => break (session, answer),
-    ///         Begun::Resting(unfinished) => begun = unfinished.advance(10), // something else may be done first
-    ///         Begun::Refused(_, error) => return Err(error), // of a put alone
-    ///     }
-    /// };
-    /// assert_eq!((answer, session.get(5)), (Answer::Inserted, Some(50)));
-    /// # Ok::<(), blink::Error>(())
-    /// ```
-    pub fn begin(mut self, op: Op, tries: u32) -> Result<Begun, (Session, Error)> {
-        let mut answer = RawAnswer::NONE;
-        let handle = &mut self.handle;
-        // SAFETY: the handle is full and this call's own.
-        let code = unsafe {
-            match op {
-                Op::Get(key) => sys::blink_session_get_try(handle, key, tries, &mut answer),
-                Op::Insert(key, pointer) => sys::blink_session_insert_try(handle, key, pointer, tries, &mut answer),
-                Op::Remove(key) => sys::blink_session_remove_try(handle, key, tries, &mut answer),
-                Op::Replace(key, pointer) => sys::blink_session_replace_try(handle, key, pointer, tries, &mut answer),
-            }
-        };
-        begins(self, code, answer)
-    }
-
-    /// Begins an exchange of an expected pointer, as [`Session::begin`] begins an operation. Its answer is [`Answer::Replaced`] with the
-    /// expected pointer, [`Answer::Exists`] with another one, which stays, or [`Answer::Absent`].
-    pub fn begin_compare_exchange(
-        mut self,
-        key: u64,
-        expected: u64,
-        pointer: u64,
-        tries: u32,
-    ) -> Result<Begun, (Session, Error)> {
-        let mut answer = RawAnswer::NONE;
-        // SAFETY: the handle is full and this call's own.
-        let code = unsafe { sys::blink_session_compare_exchange_try(&mut self.handle, key, expected, pointer, tries, &mut answer) };
-        begins(self, code, answer)
-    }
-
-    /// Begins a removal of an expected pointer, likewise: its answer is [`Answer::Removed`] with the expected pointer,
-    /// [`Answer::Exists`] with another one, which stays, or [`Answer::Absent`].
-    pub fn begin_compare_remove(mut self, key: u64, expected: u64, tries: u32) -> Result<Begun, (Session, Error)> {
-        let mut answer = RawAnswer::NONE;
-        // SAFETY: the handle is full and this call's own.
-        let code = unsafe { sys::blink_session_compare_remove_try(&mut self.handle, key, expected, tries, &mut answer) };
-        begins(self, code, answer)
-    }
-
-    /// Begins to put an entry, as [`Session::begin`] begins an operation: its answer is [`Answer::Inserted`], or [`Answer::Replaced`] with
-    /// the pointer that was there. Also one that has begun may be refused, as [`Begun::Refused`]; then nothing has changed.
-    ///
-    /// ```
-    /// use blink::{Answer, Begun, Map};
-    ///
-    /// let map = Map::new(32)?;
-    /// let mut session = map.session()?;
-    /// session.insert(5, 50)?;
-    /// let mut begun = session.begin_put(5, 51, 10).map_err(|(_, error)| error)?;
-    /// let answer = loop {
-    ///     match begun {
-    ///         Begun::Ended(_, answer) => break answer,
-    ///         Begun::Refused(_, error) => return Err(error),
-    ///         Begun::Resting(unfinished) => begun = unfinished.advance(10),
-    ///     }
-    /// };
-    /// assert_eq!(answer, Answer::Replaced(50));
-    /// # Ok::<(), blink::Error>(())
-    /// ```
-    pub fn begin_put(mut self, key: u64, pointer: u64, tries: u32) -> Result<Begun, (Session, Error)> {
-        let mut answer = RawAnswer::NONE;
-        // SAFETY: the handle is full and this call's own.
-        let code = unsafe { sys::blink_session_put_try(&mut self.handle, key, pointer, tries, &mut answer) };
-        begins(self, code, answer)
-    }
-
     // The entry of the least key in the range, if there is one.
     fn least(&mut self, range: impl RangeBounds<u64>) -> Option<(u64, u64)> {
         // SAFETY: the handle is full, a session's, and borrowed for writing; no operation is under way.
@@ -537,7 +444,7 @@ impl Session {
 
     // Begins an operation, and takes its steps to the end.
     fn ended(&mut self, begin: impl FnMut(*mut Handle, u32, *mut RawAnswer) -> Code) -> Result<Answer, Error> {
-        ended(&mut self.handle, &self.dropped, begin)
+        ended(&mut self.handle, begin)
     }
 
     // Takes the entry away that `first` names, one after another until no other session was faster.

@@ -4,16 +4,15 @@
 #![cfg(all(target_os = "linux", target_arch = "x86_64", target_env = "gnu"))]
 
 mod stepped;
-#[allow(dead_code)]
-#[path = "../src/sys.rs"]
-mod sys;
+mod tried;
 
-use blink::{Answer, Begun, Error, Index, Map, Op, Reserve, Session};
+use blink::{Answer, Error, Index, Map, Op, Reserve, Session};
 use std::fmt::Debug;
 use std::sync::atomic::{AtomicU32, Ordering};
 use std::{ptr, thread};
 use stepped::by_instruction;
-use sys::*;
+use tried::sys::*;
+use tried::{filled, DONE};
 
 const ENTRIES: [(u64, u64); 4] = [(1, 10), (2, 20), (3, 30), (4, 40)];
 
@@ -81,33 +80,29 @@ fn a_map_is_renewed_beside_an_insertion_that_is_stopped_anywhere() {
 // Begins a replacement after so many instructions of another one of the key. Returns whether it rests then; none, if the first has fewer. Both
 // are made, one behind the other, and the second session has seen both.
 fn rests_after(instructions: u32) -> Option<bool> {
-    let map = Map::open(&Index::from_sorted(4, ENTRIES).unwrap()).unwrap();
-    let (mut session, mut other) = (map.session().unwrap(), Some(map.session().unwrap()));
+    let map = tried::Map::open(4, &ENTRIES, None);
+    let (mut session, mut other) = (map.session(), map.session());
     let (mut passed, mut begun) = (0, None);
     let answer = by_instruction(
-        || session.replace(2, 21),
+        || session.begin(Op::Replace(2, 21), 1),
         || {
             if passed == instructions {
-                begun = other.take().map(|other| other.begin(Op::Replace(2, 22), 1));
+                begun = Some(other.begin(Op::Replace(2, 22), 1));
             }
             passed += 1;
             begun.is_none()
         },
     );
-    let (rests, mut other, replaced) = match begun?.map_err(|(_, error)| error).unwrap() {
-        Begun::Ended(other, Answer::Replaced(replaced)) => (false, other, replaced),
-        Begun::Resting(unfinished) => match unfinished.advance(1) {
-            Begun::Ended(other, Answer::Replaced(replaced)) => (true, other, replaced),
-            it => panic!("it waits for nobody any more: {it:?}"),
-        },
-        it => panic!("key 2 is there: {it:?}"),
-    };
+    let begun = begun?.unwrap();
+    // One that rests waits for nobody any more.
+    let ended = if begun.is_none() { other.advance(1).unwrap() } else { begun };
+    let Some(Answer::Replaced(replaced)) = ended else { panic!("key 2 is there, and nobody has its page: {ended:?}") };
     let (first, last) = if replaced == 21 { (20, 22) } else { (22, 21) };
-    assert_eq!((answer, session.get(2)), (Ok(Answer::Replaced(first)), Some(last)), "after {instructions} instructions");
+    assert_eq!((answer, session.get(2)), (Ok(Some(Answer::Replaced(first))), Some(last)), "after {instructions} instructions");
     assert!((replaced == 20 || replaced == 21) && matches!(other.get(2), Some(21 | 22)));
     drop((session, other));
-    assert_eq!(map.close().unwrap().get(2), Some(last));
-    Some(rests)
+    assert_eq!(map.close()[1], (2, last));
+    Some(begun.is_none())
 }
 
 #[test]
@@ -118,16 +113,7 @@ fn an_operation_rests_while_a_change_that_is_stopped_has_its_page() {
 
 // ---- a renewal that is stopped again and again
 
-// The calls of C, since those of Rust wait until the map is renewed.
-const DONE: Code = 0;
-const RENEWING: Code = 109;
-
-// What a call that fills an empty handle gives.
-fn filled(fill: impl FnOnce(*mut Handle) -> Code) -> Handle {
-    let mut handle = Handle::EMPTY;
-    assert_eq!(fill(&mut handle), DONE);
-    handle
-}
+// The calls are those that wait for nobody, since a session of the crate waits until the map is renewed.
 
 // The same handle once more, for a thread that alone uses it.
 fn lent(handle: &Handle) -> Handle {
