@@ -50,7 +50,7 @@ pub extern "C" fn blink_index_remove(
     key: u64,
     answer: &mut RawAnswer,
 )
-    ensures deleted { HasEdited index.old.value (Delete key) answer.new index.new.value }
+    ensures removed { HasEdited index.old.value (Delete key) answer.new index.new.value }
 {
     *answer = RawAnswer::of(index.get().delete_and_compact(alloc, key));
 }
@@ -93,7 +93,7 @@ pub extern "C" fn blink_index_compare_remove(
     expected: u64,
     answer: &mut RawAnswer,
 )
-    ensures deleted { HasEdited index.old.value (DeleteExact key expected) answer.new
+    ensures removed { HasEdited index.old.value (DeleteExact key expected) answer.new
         index.new.value }
 {
     *answer = RawAnswer::of(index.get().delete_exact_and_compact(alloc, key, expected));
