@@ -649,7 +649,8 @@ static inline int blink_session_insert(blink_session *session, uint64_t key, uin
     BLINK_WAITS(blink_session_insert_try(session, key, pointer, tries, answer))
 }
 
-/* Replaces, and where the key is absent inserts; it begins anew where another session has inserted the key between. */
+/* Maps any key to the pointer, whether the key is there or not: BLINK_REPLACED and the pointer that was there, or BLINK_INSERTED. It replaces,
+ * and where the key is absent it inserts; it begins anew where another session has inserted the key between. */
 static inline int blink_session_put(blink_session *session, uint64_t key, uint64_t pointer, blink_answer *answer) {
     BLINK_WAITS(blink_session_put_try(session, key, pointer, tries, answer))
 }
