@@ -13,7 +13,7 @@ trap 'rm -rf "$work"' EXIT
 
 # The documents, and beside them what else users read.
 documents="README.md docs/*.md bench/README.md examples/README.md crates/README.md crates/*/README.md"
-shown="examples/tour/*.notes examples/tour/index.html docs/pictures/draw.py include/blink.h include/blink.hpp python/*.py rust/blink/src/*.rs examples/*/*.c examples/*/*.cpp examples/*/*.py examples/rust/*.rs"
+shown="examples/tour/*.notes examples/tour/index.html docs/pictures/draw.py include/blink.h include/blink_bindings.h include/blink.hpp python/*.py rust/blink/src/*.rs examples/*/*.c examples/*/*.cpp examples/*/*.py examples/rust/*.rs"
 
 # README.md has at most so many lines; each other document but BOOK.md so many words of prose; each cell of a table so many words. Names in
 # backticks don't count.

@@ -2,9 +2,14 @@
  * blink.h: a proved B-link tree index, and a map that threads share without a global lock, for C and C++.
  *
  * Link with libblink.a or libblink.so, which ./libblink builds. What the comment of a function says of its results, and of what
- * it changes, is proved in crates/blink_c, unless it says "tested". Inline functions are made of the others, and tested alone. Of all
- * functions it is tested alone that memory is refused only where malloc or realloc gives none, that an operation gets on by
- * blink_session_advance, and that what is freed is free. What follows is what the caller keeps.
+ * it changes, is proved in crates/blink_c, unless it says "tested". Inline functions are made of the others, some of which blink_bindings.h
+ * declares, and are tested alone. Of all functions it is tested alone that memory is refused only where malloc or realloc gives none, that an
+ * operation gets on by blink_session_advance, and that what is freed is free. What follows is what the caller keeps.
+ *
+ * Verbs. The calls have the same names for an index, a reader and a session, where one has them, and in C++ and Rust: get; insert, which leaves
+ * a present key as it is; put, which inserts or replaces; replace; compare_exchange; remove; compare_remove; scan; first, last, next, prev,
+ * at_least and at_most, which give one entry; pop_first and pop_last; len and count. A call of a session waits where it has to. A thread that
+ * mustn't wait takes the call whose name has _try at its end, which takes `tries`: blink_bindings.h.
  *
  * Handles. blink_index, blink_reader, blink_map and blink_session are handles. A handle begins as {NULL}, and is then empty. A function
  * with a parameter `out` takes the place of an empty handle, and fills it if it returns BLINK_DONE. All other functions take a full one. A
@@ -22,9 +27,9 @@
  * use a handle; one gives it to another by what orders memory between the two: a lock, a start or join of a thread, or an atomic that one
  * stores with release order, at least, and the other loads with acquire order. Different handles may be used by different threads at the
  * same time, also readers of one index; or sessions of one map, and the map itself. No call waits for another thread, but those three, one
- * that renews a map, and the inline functions at the end. None may be called from a signal handler, or in a forked child of a process with
+ * that renews a map, and the calls of sessions without _try. None may be called from a signal handler, or in a forked child of a process with
  * threads. Tested: what a thread wrote before a call of a session that stores a pointer is seen by whoever gets this pointer from a call of
- * another one, by a find, a scan, a snapshot or a change. So a pointer may be the address of a record, which isn't changed from then on but
+ * another one, by a get, a scan, a snapshot or a change. So a pointer may be the address of a record, which isn't changed from then on but
  * by what orders memory itself.
  *
  * No call has a cancellation point, so a thread that may be cancelled, but not at any time, ends behind its call. One that ends within a
@@ -66,9 +71,8 @@ typedef struct { void *at; } blink_session;
 /* A key with its record pointer. */
 typedef struct { uint64_t key, pointer; } blink_entry;
 
-/* An operation. A find and a deletion don't read the pointer. An exchange has a third number, for which there is no place here, so it
- * has functions of its own: blink_index_exchange and blink_session_exchange. So has a deletion of an expected
- * pointer: blink_index_delete_exact and its like. */
+/* An operation. BLINK_GET and BLINK_REMOVE don't read the pointer. The changes that compare have one number more, so they have functions
+ * alone: blink_index_compare_exchange, blink_index_compare_remove and those of a session. */
 typedef struct { uint64_t kind, key, pointer; } blink_operation;
 
 /* An answer. The pointer is 0 where the answer tells none. */
@@ -98,21 +102,21 @@ typedef struct { uint64_t pages, unwritten, free, taken_out, waiting; } blink_re
 
 /* The kinds of operations. */
 enum {
-    BLINK_FIND = 0,    /* looks the key up */
+    BLINK_GET = 0,     /* looks the key up */
     BLINK_INSERT = 1,  /* maps the key to the pointer, unless the key is there */
-    BLINK_DELETE = 2,  /* takes the key away, if it is there */
+    BLINK_REMOVE = 2,  /* takes the key away, if it is there */
     BLINK_REPLACE = 3  /* maps the key to the pointer, if the key is there */
 };
 
 /* The kinds of answers. */
 enum {
-    BLINK_ABSENT = 0,   /* a find, a deletion, a replacement or an exchange: the key isn't there, and nothing changed */
-    BLINK_FOUND = 1,    /* a find: the key maps to the pointer */
-    BLINK_INSERTED = 2, /* an insertion: the key wasn't there, and maps to the pointer now */
-    BLINK_EXISTS = 3,   /* an insertion: the key maps to this pointer, and nothing changed; an exchange, or a deletion of an
-                         * expected pointer: the same, and this isn't the expected pointer */
-    BLINK_REMOVED = 4,  /* a deletion: the key mapped to this pointer, and is no longer there */
-    BLINK_REPLACED = 5  /* a replacement or an exchange: the key mapped to this pointer, and maps to the new one now */
+    BLINK_ABSENT = 0,   /* of each but insert and put: the key isn't there, and nothing changed */
+    BLINK_FOUND = 1,    /* of get: the key maps to the pointer */
+    BLINK_INSERTED = 2, /* of insert and put: the key wasn't there, and maps to the pointer now */
+    BLINK_EXISTS = 3,   /* of insert: the key maps to this pointer, and nothing changed; of compare_exchange and compare_remove:
+                         * the same, and this isn't the expected pointer */
+    BLINK_REMOVED = 4,  /* of remove and compare_remove: the key mapped to this pointer, and is no longer there */
+    BLINK_REPLACED = 5  /* of replace, put and compare_exchange: the key mapped to this pointer, and maps to the new one now */
 };
 
 /* What a call returns: BLINK_DONE, or why it is refused. A refused call changes nothing but where its comment says so. A code has one
@@ -143,9 +147,9 @@ enum {
 /* The greatest number of operations that run at once. */
 #define BLINK_BATCH_LIMIT 8192
 
-/* A good number of `tries`, for a call that may come back before an operation has ended. The functions that wait, at the end of this
- * file, and those of blink.hpp and blink.py take so many steps in vain before they yield. A step in vain reads a word of memory, and a
- * yield is a call of the kernel. */
+/* A good number of `tries`, for a call that may come back before an operation has ended. The calls of sessions that wait, and those of
+ * blink.hpp and blink.py, take so many steps in vain before they yield. A step in vain reads a word of memory, and a yield is a call of the
+ * kernel. */
 #define BLINK_TRIES 100
 
 /* The most tries of a change of a map that waits: each time that the map couldn't be renewed it has ten times as many, up to these. */
@@ -155,9 +159,16 @@ enum {
  * this one up. */
 #define BLINK_YIELDS 100
 
-/* Lets other threads run, between two tries of a call that waits. `*pauses` is 0 at the first try, and is counted. The first BLINK_YIELDS
- * calls yield (sched_yield). Each later one sleeps for some 50 microseconds. It is no cancellation point. */
-void blink_pause(uint32_t *pauses);
+#include "blink_bindings.h"
+
+/* Tells ThreadSanitizer, where it is on, what "Threads" says of pointers: of the calls that blink_bindings.h declares, and so of all below. */
+#if defined(__SANITIZE_THREAD__)
+#include "blink_tsan.h"
+#elif defined(__has_feature)
+#if __has_feature(thread_sanitizer)
+#include "blink_tsan.h"
+#endif
+#endif
 
 /* The text of a code, in a few words without a full stop. A number that is no code has one too. */
 static inline const char *blink_message(int code) {
@@ -251,27 +262,29 @@ int blink_index_insert(blink_index *index, uint64_t key, uint64_t pointer, blink
 
 /* Removes a key with its pointer in place: BLINK_REMOVED, or BLINK_ABSENT. It is never refused. Where more leaves are empty then than the
  * entries fill, it packs the index as blink_index_compact does, so that scans walk few empty leaves. That takes the time of as many
- * deletions as emptied them. Where memory for it is refused, the leaves stay, and a later deletion tries again. */
-void blink_index_delete(blink_index *index, uint64_t key, blink_answer *answer);
+ * removals as emptied them. Where memory for it is refused, the leaves stay, and a later removal tries again. */
+void blink_index_remove(blink_index *index, uint64_t key, blink_answer *answer);
 
 /* Replaces the pointer of a key in place: BLINK_REPLACED, or BLINK_ABSENT. It takes no memory. */
 void blink_index_replace(blink_index *index, uint64_t key, uint64_t pointer, blink_answer *answer);
 
+/* Maps a key to the pointer in place, whether the key is there or not: BLINK_REPLACED and the pointer that was there, or BLINK_INSERTED. Only
+ * an absent key takes memory. Refused: as blink_index_insert. */
+static inline int blink_index_put(blink_index *index, uint64_t key, uint64_t pointer, blink_answer *answer) {
+    blink_answer replaced = {0, 0};
+    blink_index_replace(index, key, pointer, &replaced);
+    if (replaced.kind == BLINK_ABSENT) return blink_index_insert(index, key, pointer, answer);
+    *answer = replaced;
+    return BLINK_DONE;
+}
+
 /* Replaces the pointer of a key in place, if it is `expected`: BLINK_REPLACED, and `expected`; BLINK_EXISTS, and the other pointer that
  * the key maps to; or BLINK_ABSENT. It takes no memory. */
-void blink_index_exchange(blink_index *index, uint64_t key, uint64_t expected, uint64_t pointer, blink_answer *answer);
+void blink_index_compare_exchange(blink_index *index, uint64_t key, uint64_t expected, uint64_t pointer, blink_answer *answer);
 
 /* Removes a key with its pointer in place, if that is `expected`: BLINK_REMOVED, and `expected`; BLINK_EXISTS, and the other
- * pointer that the key maps to; or BLINK_ABSENT. It packs the index as blink_index_delete does. */
-void blink_index_delete_exact(blink_index *index, uint64_t key, uint64_t expected, blink_answer *answer);
-
-/* Carries operations out in place, one after another, up to the first that is refused, and gives the answer of each at its place. It
- * stores how many were carried out. The other places stay as they were. Refused: BLINK_WRONG_LENGTH, if there aren't as many places
- * for answers as operations, and then none is carried out; or, of the operation next to those carried out,
- * BLINK_UNKNOWN_OPERATION, BLINK_INDEX_TOO_LARGE or BLINK_NO_MEMORY. After a deletion it packs the index as blink_index_delete
- * does. */
-int blink_index_apply(blink_index *index, const blink_operation *operations, size_t count, blink_answer *answers,
-                      size_t places, size_t *carried_out);
+ * pointer that the key maps to; or BLINK_ABSENT. It packs the index as blink_index_remove does. */
+void blink_index_compare_remove(blink_index *index, uint64_t key, uint64_t expected, blink_answer *answer);
 
 /* Packs the entries into as few pages as any tree of these entries has, in place: each leaf but the last is full then, so that an
  * insertion splits it. It takes memory for all new pages, before the old ones are freed. Refused: BLINK_NO_MEMORY, and then the
@@ -279,11 +292,7 @@ int blink_index_apply(blink_index *index, const blink_operation *operations, siz
 int blink_index_compact(blink_index *index);
 
 /* Looks a key up: true, and its record pointer; or false, and `pointer` stays as it was. */
-bool blink_index_find(const blink_index *index, uint64_t key, uint64_t *pointer);
-
-/* Looks keys up, and gives the answer of each at its place, BLINK_FOUND or BLINK_ABSENT. Refused: BLINK_WRONG_LENGTH, exactly if
- * there aren't as many places as keys. */
-int blink_index_find_many(const blink_index *index, const uint64_t *keys, size_t count, blink_answer *answers, size_t places);
+bool blink_index_get(const blink_index *index, uint64_t key, uint64_t *pointer);
 
 /* Gives the entries with keys from `lo` to `hi`, both included, in ascending order, as many as there are places, and tells how far it
  * came; `next` is the key of the first entry for which there was no place. The other places stay as they were. Where `lo` is above `hi`
@@ -315,18 +324,28 @@ bool blink_index_at_least(const blink_index *index, uint64_t key, blink_entry *e
 /* The same for the entry with the greatest key up to this one. */
 bool blink_index_at_most(const blink_index *index, uint64_t key, blink_entry *entry);
 
+/* Takes the entry with the least key away, and gives it: true; or false, if there is no entry, and `entry` stays as it was. It packs the
+ * index as blink_index_remove does. */
+static inline bool blink_index_pop_first(blink_index *index, blink_entry *entry) {
+    blink_answer removed;
+    if (!blink_index_first(index, entry)) return false;
+    blink_index_remove(index, entry->key, &removed);
+    return true;
+}
+
+/* The same of the entry with the greatest key. */
+static inline bool blink_index_pop_last(blink_index *index, blink_entry *entry) {
+    blink_answer removed;
+    if (!blink_index_last(index, entry)) return false;
+    blink_index_remove(index, entry->key, &removed);
+    return true;
+}
+
 /* The number of entries, which the index keeps. */
 size_t blink_index_len(const blink_index *index);
 
 /* The number of pages, at least 1. */
 uint32_t blink_index_pages(const blink_index *index);
-
-/* The greatest number of entries in a page. */
-uint8_t blink_index_fan(const blink_index *index);
-
-/* Gives the tree as text, a line a page, if all of it fits, and stores how many bytes it has; it ends without a zero byte.
- * docs/FORMATS.md has the format. Refused: BLINK_NO_MEMORY; then `text` and `bytes` are as they were. */
-int blink_index_dump(const blink_index *index, uint8_t *text, size_t places, size_t *bytes);
 
 /* Frees the index. */
 void blink_index_free(blink_index index);
@@ -352,9 +371,8 @@ int blink_reader_join(const blink_reader *reader, blink_reader *out);
  * index isn't freed, and in no other case. */
 int blink_reader_unshare(blink_reader *reader, blink_index *out);
 
-/* Read the index. Each gives, returns and refuses what the call of the index does that has the same name, as blink_index_find. */
-bool blink_reader_find(const blink_reader *reader, uint64_t key, uint64_t *pointer);
-int blink_reader_find_many(const blink_reader *reader, const uint64_t *keys, size_t count, blink_answer *answers, size_t places);
+/* Read the index. Each gives, returns and refuses what the call of the index does that has the same name, as blink_index_get. */
+bool blink_reader_get(const blink_reader *reader, uint64_t key, uint64_t *pointer);
 int blink_reader_scan(const blink_reader *reader, uint64_t lo, uint64_t hi, blink_entry *entries, size_t places, blink_scanned *scanned);
 int blink_reader_scan_back(const blink_reader *reader, uint64_t lo, uint64_t hi, blink_entry *entries, size_t places, blink_scanned *scanned);
 size_t blink_reader_count(const blink_reader *reader, uint64_t lo, uint64_t hi);
@@ -365,17 +383,14 @@ bool blink_reader_prev(const blink_reader *reader, uint64_t key, blink_entry *en
 bool blink_reader_at_least(const blink_reader *reader, uint64_t key, blink_entry *entry);
 bool blink_reader_at_most(const blink_reader *reader, uint64_t key, blink_entry *entry);
 size_t blink_reader_len(const blink_reader *reader);
-uint32_t blink_reader_pages(const blink_reader *reader);
-uint8_t blink_reader_fan(const blink_reader *reader);
-int blink_reader_dump(const blink_reader *reader, uint8_t *text, size_t places, size_t *bytes);
 
 /* Frees the reader. Tested: the last one frees the index. */
 void blink_reader_free(blink_reader reader);
 
 /* ---- The map: entries that threads change together at any key. It grows. ----
  *
- * A thread joins a map, and has a session then. By its session it finds, inserts, deletes, replaces, exchanges and puts any key, and scans
- * ranges. There is one list of changes of all keys. Each call answers as on the entries after a part of the list, which goes on from
+ * A thread joins a map, and has a session then. By its session it looks any key up, changes it, and scans ranges. There is one list of changes
+ * of all keys. Each call answers as on the entries after a part of the list, which goes on from
  * all that the session had seen; a change of its own follows there at once, and then the session has seen both. A session never un-
  * sees a change that it has seen. Tested: a call sees every change of a call that ended before it began. In the end every handle of
  * a session is freed, the map is closed to an index, and blink_map_free frees its handle.
@@ -387,9 +402,8 @@ void blink_reader_free(blink_reader reader);
  * A renewal takes the time of a copy of all entries, and memory for both maps. Searches go on meanwhile: one waits only while the sessions
  * are gathered, before the copy and after, or if its session is with the renewal, which is that of the change that renews, or of some thread
  * where blink_map_renew does. Changes wait for all of it. Once the entries are copied, a renewal looks up to a million times for each
- * session that is in a search. A call that has to wait is refused with BLINK_RENEWING after `tries` looks, and changes nothing. So is a
- * change that finds the map full while a session is held (blink_session_hold), has an operation under way, or is in a call. Call
- * again then; the functions that wait do. Who wants no pause opens a map with a fixed room (blink_map_open_with_room): it is never renewed.
+ * session that is in a search. A change that finds the map full waits while a session is held (blink_session_hold), has an operation under way,
+ * or is in a call. Who wants no pause opens a map with a fixed room (blink_map_open_with_room): it is never renewed.
  *
  * blink_map_open and blink_map_open_with_room, blink_map_share, blink_map_join, blink_map_renew, blink_map_close, blink_session_snapshot and
  * changes that renew the map take memory.
@@ -399,7 +413,7 @@ void blink_reader_free(blink_reader reader);
  *     blink_map_open(&index, &map);
  *         in each thread, whose session begins as {NULL}:
  *             blink_map_join(&map, &session);
- *             blink_session_put_wait(&session, key, pointer, &answer);
+ *             blink_session_put(&session, key, pointer, &answer);
  *             blink_session_free(session);
  *     blink_map_close(&map, &closed);
  *     blink_map_free(map);
@@ -416,8 +430,8 @@ int blink_map_open(const blink_index *index, blink_map *out);
  * is never renewed, so no call waits for a copy: such a change is refused with BLINK_FULL, and all other calls go on.
  *
  * A split of a page takes one of `pages` page numbers, and every write of a whole page one of `rows` rows. Most changes are
- * appended to the row of their page, and take none. An insertion has to have 22 numbers and 44 rows when it begins; a deletion, a replacement
- * or an exchange has to have one row.
+ * appended to the row of their page, and take none. An insertion has to have 22 numbers and 44 rows when it begins; any other change has
+ * to have one row.
  * Sessions draw both from the map's pool, at most 64 numbers and 1,024 rows at once; what one draws no other gets, before its place is
  * taken again. One that has fewer than 22 numbers draws others, and keeps those that it had, which it uses first. So no number is lost:
  * when all is full, each session has at most 21 left, and the pool as many. Splits by one session take 19,979 of 20,000 numbers, 979 of
@@ -425,7 +439,7 @@ int blink_map_open(const blink_index *index, blink_map *out);
  * Half of the rows are for `sessions` sessions, in equal parts, of 44 at least and 4,096 at most; a new page keeps one of the others. Tested: a
  * row that a write replaces comes back to its session, once each call that was in progress has ended. So two rows for each page number, and a
  * few hundred for each session, are enough for all changes as long as the page numbers last. While a thread is held up inside a call no
- * row comes back, and a change may be refused with BLINK_ROWS_BUSY, and let through later. Refused: BLINK_BAD_SESSIONS, if `sessions`
+ * row comes back, and a change waits for one. Refused: BLINK_BAD_SESSIONS, if `sessions`
  * is 0 or more than 256; BLINK_MAP_TOO_LARGE, if the index's pages and `pages` are above 1,048,575; BLINK_NO_MEMORY. */
 int blink_map_open_with_room(const blink_index *index, uint32_t pages, uint32_t rows, uint32_t sessions, bool fixed, blink_map *out);
 
@@ -444,53 +458,36 @@ static inline void blink_room_for(const blink_index *index, uint32_t insertions,
     *rows = most_rows < UINT32_MAX ? (uint32_t)most_rows : UINT32_MAX;
 }
 
+/* The body of the next three calls: it takes the pointer out of the handle, and other threads wait until it is back. */
+#define BLINK_TAKES(call)                                                                                      \
+    blink_map taken;                                                                                           \
+    uint32_t pauses = 0;                                                                                       \
+    int code;                                                                                                  \
+    while ((taken.at = __atomic_exchange_n(&map->at, (void *)0, __ATOMIC_ACQUIRE)) == 0) blink_pause(&pauses); \
+    code = call;                                                                                               \
+    __atomic_store_n(&map->at, taken.at, __ATOMIC_RELEASE);                                                    \
+    return code
+
 /* Gives one more handle of the map. It takes memory for the handle alone. Refused: BLINK_MAP_CLOSED, if a close of the map has begun;
  * BLINK_NO_MEMORY. */
-static inline int blink_map_share(blink_map *map, blink_map *out);
+static inline int blink_map_share(blink_map *map, blink_map *out) {
+    BLINK_TAKES(blink_map_share_alone(&taken, out));
+}
 
 /* Gives a session. It takes memory for the handle alone. Refused: BLINK_NO_SESSION; BLINK_NO_MEMORY. Tested: it is BLINK_NO_SESSION
  * if a close of the map has begun; otherwise only if each place was taken. */
-static inline int blink_map_join(blink_map *map, blink_session *out);
-
-/* Stores how many rows and page numbers the map's pool has left, for a look: sessions may draw at any time, and the map may be renewed. It
- * looks `looks` times for a session that is in no call, and not held. The rows come first here, and the page numbers first in
- * blink_map_open_with_room. Tested: it stores what there is. Refused: BLINK_RENEWING, if it found no such session, or the map was being
- * renewed; BLINK_MAP_CLOSED, if a close of the map has begun; then both stay as they were. */
-static inline int blink_map_room(blink_map *map, uint32_t looks, uint64_t *rows, uint64_t *pages);
-
-/* The same three, where no other call uses the handle `map` at the same time. */
-int blink_map_share_alone(blink_map *map, blink_map *out);
-int blink_map_join_alone(blink_map *map, blink_session *out);
-int blink_map_room_alone(blink_map *map, uint32_t looks, uint64_t *rows, uint64_t *pages);
-
-/* Takes the pointer out of a handle, which the caller puts back. Until then this waits in other threads. For the functions below. */
-static inline blink_map blink_map_taken(blink_map *map) {
-    blink_map taken;
-    uint32_t pauses = 0;
-    while ((taken.at = __atomic_exchange_n(&map->at, (void *)0, __ATOMIC_ACQUIRE)) == 0) blink_pause(&pauses);
-    return taken;
-}
-
-static inline int blink_map_share(blink_map *map, blink_map *out) {
-    blink_map taken = blink_map_taken(map);
-    int code = blink_map_share_alone(&taken, out);
-    __atomic_store_n(&map->at, taken.at, __ATOMIC_RELEASE);
-    return code;
-}
-
 static inline int blink_map_join(blink_map *map, blink_session *out) {
-    blink_map taken = blink_map_taken(map);
-    int code = blink_map_join_alone(&taken, out);
-    __atomic_store_n(&map->at, taken.at, __ATOMIC_RELEASE);
-    return code;
+    BLINK_TAKES(blink_map_join_alone(&taken, out));
 }
 
-static inline int blink_map_room(blink_map *map, uint32_t looks, uint64_t *rows, uint64_t *pages) {
-    blink_map taken = blink_map_taken(map);
-    int code = blink_map_room_alone(&taken, looks, rows, pages);
-    __atomic_store_n(&map->at, taken.at, __ATOMIC_RELEASE);
-    return code;
+/* Stores how many page numbers and rows the map's pool has left, for a look: sessions may draw at any time, and the map may be renewed. It
+ * looks `looks` times for a session that is in no call, and not held. Tested: it stores what there is. Refused: BLINK_RENEWING, if it found
+ * no such session, or the map was being renewed; BLINK_MAP_CLOSED, if a close of the map has begun; then both stay as they were. */
+static inline int blink_map_room(blink_map *map, uint32_t looks, uint64_t *pages, uint64_t *rows) {
+    BLINK_TAKES(blink_map_room_alone(&taken, looks, pages, rows));
 }
+
+#undef BLINK_TAKES
 
 /* Renews the map in good time, which spares other threads the renewal, and not the pause of their changes. It looks `looks` times for each
  * session that is held or in a call. It copies by a session that nobody has, or else by one whose searches wait meanwhile. No other call uses
@@ -511,209 +508,214 @@ int blink_map_close(blink_map *map, blink_index *out);
 /* Frees the handle. The handles of sessions, and others of the map, may still be used, and are still to be freed. */
 void blink_map_free(blink_map map);
 
-/* The calls of sessions wait for nobody. A thread that may wait takes blink_session_find_wait, blink_session_insert_wait and their like, at
- * the end of this file, which have no `tries`. Each looks for its session `tries` times, at least once, while the map is renewed, and is
- * refused with BLINK_RENEWING if it doesn't find it; and with BLINK_PENDING, if an operation of the session is under way. Then nothing
- * changes. */
+/* ---- Sessions: calls that wait. ----
+ *
+ * Each goes on until it has ended. It lets other threads run (blink_pause) and tries again where another thread has the page that a change
+ * wants, where the session's rows are on their way back, where the map is renewed, and where a session that is held or in a call keeps it
+ * from being renewed. So none returns BLINK_ROWS_BUSY or BLINK_RENEWING. Each is refused with BLINK_PENDING if an operation of the session is
+ * under way, which only a call with _try can have left; then nothing changes. They are made of the calls with _try, and are no exports.
+ */
+
+/* The body of each call below that reads: it is made until the map isn't being renewed. */
+#define BLINK_WAITS(call)                                         \
+    uint32_t pauses = 0;                                          \
+    int code;                                                     \
+    while ((code = call) == BLINK_RENEWING) blink_pause(&pauses); \
+    return code
 
 /* Looks any key up: the answer is BLINK_FOUND or BLINK_ABSENT, after the changes that the session has seen by the end of the call. It returns
- * BLINK_DONE in both cases, so `answer` has to be looked at. Refused: BLINK_PENDING; BLINK_RENEWING. */
-int blink_session_find(blink_session *session, uint64_t key, uint32_t tries, blink_answer *answer);
+ * BLINK_DONE in both cases, so `answer` has to be looked at. */
+static inline int blink_session_get(blink_session *session, uint64_t key, blink_answer *answer) {
+    BLINK_WAITS(blink_session_get_try(session, key, BLINK_TRIES, answer));
+}
 
 /* Gives the entries whose keys are from `lo` to `hi`, both included, in ascending order, as many as there are places; other places
  * stay as they were. It reads leaf after leaf, from the left, each at one time: what it says of a key is what the changes up to some
  * time in the call leave of it, and of a greater key those up to that time or a later one. A key that is there throughout the
  * call is reported, and one that isn't there throughout isn't. The session has seen the changes up to these times then. A walk in parts
- * calls again from `next` as long as `more` is 1; without a place it gets nowhere. It takes no memory. Refused: BLINK_PENDING;
- * BLINK_RENEWING. */
-int blink_session_scan(blink_session *session, uint64_t lo, uint64_t hi, uint32_t tries, blink_entry *entries, size_t places,
-                       blink_scanned *scanned);
+ * calls again from `next` as long as `more` is 1; without a place it gets nowhere. It takes no memory. */
+static inline int blink_session_scan(blink_session *session, uint64_t lo, uint64_t hi, blink_entry *entries, size_t places,
+                                     blink_scanned *scanned) {
+    BLINK_WAITS(blink_session_scan_try(session, lo, hi, BLINK_TRIES, entries, places, scanned));
+}
 
-/* The same in descending order, as blink_pass_scan_back. */
-int blink_session_scan_back(blink_session *session, uint64_t lo, uint64_t hi, uint32_t tries, blink_entry *entries, size_t places,
-                            blink_scanned *scanned);
+/* The same in descending order: of a lesser key it says what the changes up to a later time leave. */
+static inline int blink_session_scan_back(blink_session *session, uint64_t lo, uint64_t hi, blink_entry *entries, size_t places,
+                                          blink_scanned *scanned) {
+    BLINK_WAITS(blink_session_scan_back_try(session, lo, hi, BLINK_TRIES, entries, places, scanned));
+}
 
 /* Takes a snapshot: the entries whose keys are from `lo` to `hi`, both included, in ascending order, as all of them were at one time in
  * the call. They are what the changes that the session has seen then leave of each of these keys. The array gets as many as there are
  * places, and `taken` says how many there are; other places stay as they were. If some leaf of the range was changed at each of `tries`
- * tries, there is no snapshot, and the places stay as they were: try again, or scan. It takes memory for the
- * entries and 16 bytes for each leaf, and frees it again. Refused: BLINK_PENDING; BLINK_RENEWING; BLINK_NO_MEMORY, and then the session may
- * have seen more. */
-int blink_session_snapshot(blink_session *session, uint64_t lo, uint64_t hi, uint32_t tries, blink_entry *entries, size_t places,
-                           blink_taken *taken);
-
-/* Insert, delete, replace or exchange any key; the last answers as blink_index_exchange does, and no other session changes the key
- * between the test and the replacement. Where the map is full they renew it, unless its room is fixed, and take memory then. They return
- * BLINK_DONE and the answer once the operation has ended, and BLINK_PENDING if it
- * hasn't: then it goes on by blink_session_advance, and until it has ended the session can do nothing else, and is held. Tested: that is after
- * `tries` steps in vain, since another session has the page that it wants. Refused: BLINK_PENDING, if an operation was under way before, and
- * then nothing changes; BLINK_RENEWING; BLINK_ROWS_BUSY, if rows of the session are on their way back; BLINK_MAP_TOO_LARGE; BLINK_NO_MEMORY;
- * BLINK_FULL, only if the map's room is fixed. The operation isn't made then, and may be begun again. Tested: an insertion of a fixed map is
- * refused with BLINK_FULL only if its key is absent: otherwise it is BLINK_EXISTS all the same. */
-int blink_session_insert(blink_session *session, uint64_t key, uint64_t pointer, uint32_t tries, blink_answer *answer);
-int blink_session_delete(blink_session *session, uint64_t key, uint32_t tries, blink_answer *answer);
-int blink_session_replace(blink_session *session, uint64_t key, uint64_t pointer, uint32_t tries, blink_answer *answer);
-int blink_session_exchange(blink_session *session, uint64_t key, uint64_t expected, uint64_t pointer, uint32_t tries,
-                           blink_answer *answer);
-
-/* Deletes any key, if its pointer is `expected`, as blink_session_delete deletes one of any pointer. It answers as
- * blink_index_delete_exact does, and no other session changes the key between the test and the deletion. */
-int blink_session_delete_exact(blink_session *session, uint64_t key, uint64_t expected, uint32_t tries, blink_answer *answer);
-
-/* Maps any key to the pointer: BLINK_INSERTED, if nothing was there, or BLINK_REPLACED and the pointer that was there. It replaces, and
- * where the key is absent it inserts; it begins anew where another session has inserted the key between. It goes on as a replacement
- * does, and comes back with BLINK_PENDING also where it begins anew. Refused: as an insertion, also when it goes on. Then it has made no
- * change. */
-int blink_session_put(blink_session *session, uint64_t key, uint64_t pointer, uint32_t tries, blink_answer *answer);
-
-/* Takes the next steps of the operation or the put that is under way. It returns BLINK_DONE and the answer once that has ended, and
- * BLINK_PENDING if it hasn't: then it holds no page, so that no other session waits for it, and the thread may do something else,
- * yield or wait as it likes, and calls again. Refused: BLINK_IDLE, if nothing is under way; and of a put as blink_session_put, which has
- * then ended without a change. */
-int blink_session_advance(blink_session *session, uint32_t tries, blink_answer *answer);
+ * tries, there is no snapshot, and the places stay as they were: try again, or scan. It takes memory for the entries and 16 bytes for each
+ * leaf, and frees it again. Refused: BLINK_NO_MEMORY, and then the session may have seen more. */
+static inline int blink_session_snapshot(blink_session *session, uint64_t lo, uint64_t hi, uint32_t tries, blink_entry *entries,
+                                         size_t places, blink_taken *taken) {
+    BLINK_WAITS(blink_session_snapshot_try(session, lo, hi, tries, entries, places, taken));
+}
 
 /* Holds the session for the calls that follow, so that they find no renewal, until it is let go. The map is neither renewed nor closed
  * meanwhile, so hold it for a few calls, and let it go before the thread waits for anything. A change of this session that finds the map
- * full lets it go itself, and so does one that goes on: it is held again by the next change. Refused: BLINK_PENDING; BLINK_RENEWING. */
-int blink_session_hold(blink_session *session, uint32_t tries);
+ * full lets it go itself, and so does one that goes on: it is held again by the next change. */
+static inline int blink_session_hold(blink_session *session) {
+    BLINK_WAITS(blink_session_hold_try(session, BLINK_TRIES));
+}
+
 void blink_session_let_go(blink_session *session);
 
 /* Tells what the session has of page numbers and rows in the map that it is in just now, for a look; blink_map_room tells what the pool has
- * left. Where the room is fixed, that shows how near its end is. The session is held for the call. Refused: BLINK_PENDING; BLINK_RENEWING; then
- * `reserve` stays as it was. */
-int blink_session_reserve(blink_session *session, uint32_t tries, blink_reserve *reserve);
+ * left. Where the room is fixed, that shows how near its end is. The session is held for the call. If it is refused, `reserve` stays as it
+ * was. */
+static inline int blink_session_reserve(blink_session *session, blink_reserve *reserve) {
+    BLINK_WAITS(blink_session_reserve_try(session, BLINK_TRIES, reserve));
+}
+
+#undef BLINK_WAITS
+
+/* The body of the six calls below: a scan of one place, or of no key where there is none on that side. */
+#define BLINK_NEAR(scan, there_are, lo, hi)                                                       \
+    blink_scanned scanned = {0, 0, 0};                                                            \
+    int code = scan(session, (there_are) ? (lo) : 1, (there_are) ? (hi) : 0, entry, 1, &scanned); \
+    if (code == BLINK_DONE) *found = scanned.filled == 1;                                         \
+    return code
+
+/* Gives the entry with the least key, as a scan reports it first: `found` is true then; or false, if it reports none, and `entry` stays as it
+ * was. If the call is refused, both do. Emptied leaves stay in the tree, and the call walks those before the entry. */
+static inline int blink_session_first(blink_session *session, blink_entry *entry, bool *found) {
+    BLINK_NEAR(blink_session_scan, true, 0, UINT64_MAX);
+}
+
+/* The same for the entry with the greatest key, as a backward scan reports it first. It goes down to each emptied leaf behind the entry. */
+static inline int blink_session_last(blink_session *session, blink_entry *entry, bool *found) {
+    BLINK_NEAR(blink_session_scan_back, true, 0, UINT64_MAX);
+}
+
+/* The same as blink_session_first for the entry with the least key above this one. */
+static inline int blink_session_next(blink_session *session, uint64_t key, blink_entry *entry, bool *found) {
+    BLINK_NEAR(blink_session_scan, key < UINT64_MAX, key + 1, UINT64_MAX);
+}
+
+/* The same as blink_session_last for the entry with the greatest key below this one. */
+static inline int blink_session_prev(blink_session *session, uint64_t key, blink_entry *entry, bool *found) {
+    BLINK_NEAR(blink_session_scan_back, key > 0, 0, key - 1);
+}
+
+/* The same as blink_session_first for the entry with the least key from this one on. */
+static inline int blink_session_at_least(blink_session *session, uint64_t key, blink_entry *entry, bool *found) {
+    BLINK_NEAR(blink_session_scan, true, key, UINT64_MAX);
+}
+
+/* The same as blink_session_last for the entry with the greatest key up to this one. */
+static inline int blink_session_at_most(blink_session *session, uint64_t key, blink_entry *entry, bool *found) {
+    BLINK_NEAR(blink_session_scan_back, true, 0, key);
+}
+
+#undef BLINK_NEAR
+
+/* Stores how many entries a scan of the keys from `lo` to `hi`, both included, reports. If it is refused, `count` stays as it was. */
+static inline int blink_session_count(blink_session *session, uint64_t lo, uint64_t hi, size_t *count) {
+    blink_entry part[64];
+    blink_scanned scanned = {0, 1, 0};
+    size_t counted = 0;
+    for (scanned.next = lo; scanned.more; counted += (size_t)scanned.filled) {
+        int code = blink_session_scan(session, scanned.next, hi, part, 64, &scanned);
+        if (code != BLINK_DONE) return code;
+    }
+    *count = counted;
+    return BLINK_DONE;
+}
+
+/* The body of each change below, by a session that has no operation under way: it begins until it has ended. Where the map couldn't be renewed
+ * it has ten times as many tries then, up to BLINK_MOST_TRIES, so that a renewal outlasts a call of a thread that was preempted. */
+#define BLINK_WAITS(begins)                                                                                                     \
+    blink_scanned none;                                                                                                         \
+    blink_entry nowhere;                                                                                                        \
+    uint32_t tries = BLINK_TRIES, pauses = 0, rests;                                                                            \
+    int code = blink_session_scan(session, 1, 0, &nowhere, 0, &none);                                                           \
+    if (code != BLINK_DONE) return code;                                                                                        \
+    for (;; blink_pause(&pauses)) {                                                                                             \
+        code = begins;                                                                                                          \
+        for (rests = 0; code == BLINK_PENDING; code = blink_session_advance(session, BLINK_TRIES, answer)) blink_pause(&rests); \
+        if (code != BLINK_ROWS_BUSY && code != BLINK_RENEWING) return code;                                                     \
+        if (code == BLINK_RENEWING && tries < BLINK_MOST_TRIES) tries *= 10;                                                    \
+    }
+
+/* The changes. Each answers as that of an index, and no other session changes the key between a test and the change. Where the map is full they
+ * renew it, unless its room is fixed, and take memory then. Refused: BLINK_MAP_TOO_LARGE; BLINK_NO_MEMORY; BLINK_FULL, only if the map's room
+ * is fixed. The operation isn't made then. Tested: an insertion into a fixed map is refused with BLINK_FULL only if its key is absent:
+ * otherwise it is BLINK_EXISTS all the same. */
+static inline int blink_session_insert(blink_session *session, uint64_t key, uint64_t pointer, blink_answer *answer) {
+    BLINK_WAITS(blink_session_insert_try(session, key, pointer, tries, answer))
+}
+
+/* Maps any key to the pointer, whether the key is there or not: BLINK_REPLACED and the pointer that was there, or BLINK_INSERTED. It replaces,
+ * and where the key is absent it inserts; it begins anew where another session has inserted the key between. */
+static inline int blink_session_put(blink_session *session, uint64_t key, uint64_t pointer, blink_answer *answer) {
+    BLINK_WAITS(blink_session_put_try(session, key, pointer, tries, answer))
+}
+
+static inline int blink_session_replace(blink_session *session, uint64_t key, uint64_t pointer, blink_answer *answer) {
+    BLINK_WAITS(blink_session_replace_try(session, key, pointer, tries, answer))
+}
+
+static inline int blink_session_compare_exchange(blink_session *session, uint64_t key, uint64_t expected, uint64_t pointer,
+                                                 blink_answer *answer) {
+    BLINK_WAITS(blink_session_compare_exchange_try(session, key, expected, pointer, tries, answer))
+}
+
+static inline int blink_session_remove(blink_session *session, uint64_t key, blink_answer *answer) {
+    BLINK_WAITS(blink_session_remove_try(session, key, tries, answer))
+}
+
+static inline int blink_session_compare_remove(blink_session *session, uint64_t key, uint64_t expected, blink_answer *answer) {
+    BLINK_WAITS(blink_session_compare_remove_try(session, key, expected, tries, answer))
+}
+
+#undef BLINK_WAITS
+
+/* The body of the two calls below: it takes the entry away that `end` names, one after another until no other session was faster. */
+#define BLINK_POPS(end)                                                                      \
+    blink_entry there = {0, 0};                                                              \
+    blink_answer answer = {0, 0};                                                            \
+    bool some = false;                                                                       \
+    do {                                                                                     \
+        int code = end(session, &there, &some);                                              \
+        if (code == BLINK_DONE && some)                                                      \
+            code = blink_session_compare_remove(session, there.key, there.pointer, &answer); \
+        if (code != BLINK_DONE) return code;                                                 \
+    } while (some && answer.kind != BLINK_REMOVED);                                          \
+    if (some) *entry = there;                                                                \
+    *found = some;                                                                           \
+    return BLINK_DONE
+
+/* Takes the entry with the least key away, and gives it: `found` is true then; or false, if a scan found none, and `entry` stays as it was. Of
+ * two sessions that take entries at once, each gets its own. A lesser key that another session inserts meanwhile may be passed over. Refused: as
+ * blink_session_remove; then nothing is taken away, and both stay as they were. */
+static inline int blink_session_pop_first(blink_session *session, blink_entry *entry, bool *found) {
+    BLINK_POPS(blink_session_first);
+}
+
+/* The same of the entry with the greatest key. */
+static inline int blink_session_pop_last(blink_session *session, blink_entry *entry, bool *found) {
+    BLINK_POPS(blink_session_last);
+}
+
+#undef BLINK_POPS
 
 /* Frees the handle. Tested: a session leaves its map by it, and its place can be taken again. An operation or a put under way goes on to
  * its end before; only a put may be left undone, where the map has no room for its other half. If it still waits for other sessions
  * after 1,000 tries, the session is lost, and the map can be neither renewed nor closed any more. */
 void blink_session_free(blink_session session);
 
-/* Tells ThreadSanitizer, where it is on, what "Threads" says of pointers: of the calls above, and so of the functions below. */
-#if defined(__SANITIZE_THREAD__)
-#include "blink_tsan.h"
-#elif defined(__has_feature)
-#if __has_feature(thread_sanitizer)
-#include "blink_tsan.h"
-#endif
-#endif
-
-/* ---- Calls to their end. ----
- *
- * For a thread that may wait. These make a call and go on until it has ended. Where another thread has the page that a change wants, or the
- * session's rows are on their way back, where the map is renewed, or a session that is held or in a call keeps it from being renewed, they
- * let other threads run (blink_pause) and go on. They are made of the calls above, which wait for nobody, and are no exports. Each answers and
- * is refused as the call that it makes, but they never return BLINK_ROWS_BUSY or BLINK_RENEWING, and BLINK_PENDING only if an operation was
- * under way before; then nothing changes.
- */
-
-/* Ends the operation or the put that is under way. Refused: as blink_session_advance, but never with BLINK_PENDING. */
-static inline int blink_session_finish(blink_session *session, blink_answer *answer) {
-    uint32_t pauses = 0;
-    int code;
-    while ((code = blink_session_advance(session, BLINK_TRIES, answer)) == BLINK_PENDING) blink_pause(&pauses);
-    return code;
-}
-
-/* Whether a change with this code has to begin once more; if not, `code` is how it has ended. Where the map couldn't be renewed it has ten times
- * as many tries, up to BLINK_MOST_TRIES, so that a renewal outlasts a call of a thread that was preempted. For the functions below. */
-static inline bool blink_session_again(blink_session *session, int *code, uint32_t *tries, uint32_t *pauses, blink_answer *answer) {
-    if (*code == BLINK_PENDING) *code = blink_session_finish(session, answer);
-    if (*code != BLINK_ROWS_BUSY && *code != BLINK_RENEWING) return false;
-    if (*code == BLINK_RENEWING && *tries < BLINK_MOST_TRIES) *tries *= 10;
-    blink_pause(pauses);
-    return true;
-}
-
-/* Whether no operation of the session is under way: BLINK_DONE, or BLINK_PENDING. */
-static inline int blink_session_is_free(blink_session *session) {
-    blink_scanned none;
-    blink_entry nowhere;
-    uint32_t pauses = 0;
-    int code;
-    while ((code = blink_session_scan(session, 1, 0, BLINK_TRIES, &nowhere, 0, &none)) == BLINK_RENEWING) blink_pause(&pauses);
-    return code;
-}
-
-/* The body of each change below, by a session that has no operation under way: it begins until it has ended. */
-#define BLINK_WAITS(begins)                                               \
-    uint32_t tries = BLINK_TRIES, pauses = 0;                             \
-    int code = blink_session_is_free(session);                            \
-    if (code != BLINK_DONE) return code;                                  \
-    do code = begins;                                                     \
-    while (blink_session_again(session, &code, &tries, &pauses, answer)); \
-    return code
-
-static inline int blink_session_insert_wait(blink_session *session, uint64_t key, uint64_t pointer, blink_answer *answer) {
-    BLINK_WAITS(blink_session_insert(session, key, pointer, tries, answer));
-}
-
-static inline int blink_session_delete_wait(blink_session *session, uint64_t key, blink_answer *answer) {
-    BLINK_WAITS(blink_session_delete(session, key, tries, answer));
-}
-
-static inline int blink_session_replace_wait(blink_session *session, uint64_t key, uint64_t pointer, blink_answer *answer) {
-    BLINK_WAITS(blink_session_replace(session, key, pointer, tries, answer));
-}
-
-static inline int blink_session_exchange_wait(blink_session *session, uint64_t key, uint64_t expected, uint64_t pointer,
-                                              blink_answer *answer) {
-    BLINK_WAITS(blink_session_exchange(session, key, expected, pointer, tries, answer));
-}
-
-static inline int blink_session_delete_exact_wait(blink_session *session, uint64_t key, uint64_t expected, blink_answer *answer) {
-    BLINK_WAITS(blink_session_delete_exact(session, key, expected, tries, answer));
-}
-
-static inline int blink_session_put_wait(blink_session *session, uint64_t key, uint64_t pointer, blink_answer *answer) {
-    BLINK_WAITS(blink_session_put(session, key, pointer, tries, answer));
-}
-
-#undef BLINK_WAITS
-
-/* The body of each call below: it is made until the map isn't being renewed. */
-#define BLINK_WAITS(call)                                          \
-    uint32_t pauses = 0;                                           \
-    int code;                                                      \
-    while ((code = call) == BLINK_RENEWING) blink_pause(&pauses);  \
-    return code
-
-static inline int blink_session_find_wait(blink_session *session, uint64_t key, blink_answer *answer) {
-    BLINK_WAITS(blink_session_find(session, key, BLINK_TRIES, answer));
-}
-
-static inline int blink_session_scan_wait(blink_session *session, uint64_t lo, uint64_t hi, blink_entry *entries, size_t places,
-                                          blink_scanned *scanned) {
-    BLINK_WAITS(blink_session_scan(session, lo, hi, BLINK_TRIES, entries, places, scanned));
-}
-
-static inline int blink_session_scan_back_wait(blink_session *session, uint64_t lo, uint64_t hi, blink_entry *entries, size_t places,
-                                               blink_scanned *scanned) {
-    BLINK_WAITS(blink_session_scan_back(session, lo, hi, BLINK_TRIES, entries, places, scanned));
-}
-
-static inline int blink_session_snapshot_wait(blink_session *session, uint64_t lo, uint64_t hi, uint32_t tries, blink_entry *entries,
-                                              size_t places, blink_taken *taken) {
-    BLINK_WAITS(blink_session_snapshot(session, lo, hi, tries, entries, places, taken));
-}
-
-static inline int blink_session_hold_wait(blink_session *session) {
-    BLINK_WAITS(blink_session_hold(session, BLINK_TRIES));
-}
-
-static inline int blink_session_reserve_wait(blink_session *session, blink_reserve *reserve) {
-    BLINK_WAITS(blink_session_reserve(session, BLINK_TRIES, reserve));
-}
-
-#undef BLINK_WAITS
-
 /* ---- Objects behind pointers: when may one be freed? ----
  *
  * Who finds a pointer reads the object there after the call, and meanwhile another thread may take the pointer out of the map. So each
- * thread that reads objects has a guard, and holds it from before a find until it has done with what it found, for as many calls as it
- * likes. A thread that has taken pointers out, by a deletion, a replacement, an exchange or a put, notes which guards are held, and frees
+ * thread that reads objects has a guard, and holds it from before a get until it has done with what it found, for as many calls as it
+ * likes. A thread that has taken pointers out, by a change that removes or replaces them, notes which guards are held, and frees
  * the objects once all these are past. Held guards hold nobody up but who waits for them: the calls on the map go on. A guard begins as
  * {0}, and one thread at a time uses it. The guards of a map's readers stand in one array. Tested: an object that was freed so isn't
- * read any more. It is so since stores and loads of the map and of guards are sequentially consistent, and a find sees each change of a
+ * read any more. It is so since stores and loads of the map and of guards are sequentially consistent, and a get sees each change of a
  * call that ended before it began.
  */
 

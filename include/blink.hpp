@@ -1,6 +1,5 @@
 // blink.hpp: blink.h for C++17 and later. Each type has a handle, which it frees, and can be moved and not copied. What a call says of its
-// results, and what it takes from its caller, blink.h says of the function that has the call's name. Three have another name there: remove is
-// delete, remove_exact is delete_exact, and size is len.
+// results, and what it takes from its caller, blink.h says of the function that has the call's name, or blink_bindings.h.
 //
 // A refusal is thrown as blink::Error, with its code. A call of a session ends before it returns: it is a function of blink.h that
 // waits. One call at a time uses an object, also to read, so no call is const; but several threads at once may call join, share
@@ -122,8 +121,8 @@ std::optional<std::vector<Entry>> snapshot(H *handle, Snapshot snapshot, Key lo,
 // The calls of an index and of a reader that read.
 template <class H> struct Calls;
 template <> struct Calls<blink_index> {
-    static constexpr auto find = blink_index_find;
-    static constexpr auto find_many = blink_index_find_many;
+    static constexpr auto get = blink_index_get;
+    static constexpr auto get_many = blink_index_get_many;
     static constexpr auto scan = blink_index_scan;
     static constexpr auto scan_back = blink_index_scan_back;
     static constexpr auto count = blink_index_count;
@@ -140,8 +139,8 @@ template <> struct Calls<blink_index> {
     static constexpr auto free = blink_index_free;
 };
 template <> struct Calls<blink_reader> {
-    static constexpr auto find = blink_reader_find;
-    static constexpr auto find_many = blink_reader_find_many;
+    static constexpr auto get = blink_reader_get;
+    static constexpr auto get_many = blink_reader_get_many;
     static constexpr auto scan = blink_reader_scan;
     static constexpr auto scan_back = blink_reader_scan_back;
     static constexpr auto count = blink_reader_count;
@@ -161,14 +160,14 @@ template <> struct Calls<blink_reader> {
 // What an index and a reader read.
 template <class H> class Reads {
 public:
-    std::optional<Pointer> find(Key key) {
+    std::optional<Pointer> get(Key key) {
         Pointer pointer = 0;
-        if (!Calls<H>::find(&handle_, key, &pointer)) return std::nullopt;
+        if (!Calls<H>::get(&handle_, key, &pointer)) return std::nullopt;
         return pointer;
     }
-    std::vector<Answer> find_many(const std::vector<Key> &keys) {
+    std::vector<Answer> get_many(const std::vector<Key> &keys) {
         std::vector<Answer> answers(keys.size());
-        check(Calls<H>::find_many(&handle_, place_of(keys), keys.size(), place_of(answers), answers.size()));
+        check(Calls<H>::get_many(&handle_, place_of(keys), keys.size(), place_of(answers), answers.size()));
         return answers;
     }
     // The entries with keys from lo to hi, both included.
@@ -197,7 +196,7 @@ public:
     std::optional<Entry> at_least(Key key) { return near(Calls<H>::at_least, key); }
     // The entry with the greatest key up to this one.
     std::optional<Entry> at_most(Key key) { return near(Calls<H>::at_most, key); }
-    std::size_t size() { return Calls<H>::len(&handle_); }
+    std::size_t len() { return Calls<H>::len(&handle_); }
     std::uint32_t pages() { return Calls<H>::pages(&handle_); }
     unsigned fan() { return Calls<H>::fan(&handle_); }
     std::string dump() {
@@ -251,25 +250,41 @@ public:
         detail::check(blink_index_insert(&handle_, key, pointer, &answer));
         return answer;
     }
-    Answer remove(Key key) {
+    // Maps the key to the pointer, and returns the one that was there.
+    std::optional<Pointer> put(Key key, Pointer pointer) {
         Answer answer{0, 0};
-        blink_index_delete(&handle_, key, &answer);
-        return answer;
+        detail::check(blink_index_put(&handle_, key, pointer, &answer));
+        return detail::pointer_of(answer);
     }
     Answer replace(Key key, Pointer pointer) {
         Answer answer{0, 0};
         blink_index_replace(&handle_, key, pointer, &answer);
         return answer;
     }
-    Answer exchange(Key key, Pointer expected, Pointer pointer) {
+    Answer compare_exchange(Key key, Pointer expected, Pointer pointer) {
         Answer answer{0, 0};
-        blink_index_exchange(&handle_, key, expected, pointer, &answer);
+        blink_index_compare_exchange(&handle_, key, expected, pointer, &answer);
         return answer;
     }
-    Answer remove_exact(Key key, Pointer expected) {
+    Answer remove(Key key) {
         Answer answer{0, 0};
-        blink_index_delete_exact(&handle_, key, expected, &answer);
+        blink_index_remove(&handle_, key, &answer);
         return answer;
+    }
+    Answer compare_remove(Key key, Pointer expected) {
+        Answer answer{0, 0};
+        blink_index_compare_remove(&handle_, key, expected, &answer);
+        return answer;
+    }
+    // Takes the entry with the least key away, and returns it.
+    std::optional<Entry> pop_first() {
+        Entry entry{0, 0};
+        return blink_index_pop_first(&handle_, &entry) ? std::optional(entry) : std::nullopt;
+    }
+    // The same of the entry with the greatest key.
+    std::optional<Entry> pop_last() {
+        Entry entry{0, 0};
+        return blink_index_pop_last(&handle_, &entry) ? std::optional(entry) : std::nullopt;
     }
     // Runs operations on a copy, which then takes the index's place: all of them, or none.
     std::vector<Answer> run(const std::vector<Operation> &operations) {
@@ -328,7 +343,7 @@ public:
     // Holds a session as long as it lives, so that calls find no renewal: a few calls at most, since the map can't be renewed meanwhile.
     class Hold {
     public:
-        explicit Hold(Session &session) : session_(&session) { detail::check(blink_session_hold_wait(&session.handle_)); }
+        explicit Hold(Session &session) : session_(&session) { detail::check(blink_session_hold(&session.handle_)); }
         Hold(const Hold &) = delete;
         Hold &operator=(const Hold &) = delete;
         ~Hold() { blink_session_let_go(&session_->handle_); }
@@ -336,49 +351,85 @@ public:
     private:
         Session *session_;
     };
-    std::optional<Pointer> find(Key key) {
-        return detail::pointer_of(ended([=](auto *it, Answer *answer) { return blink_session_find_wait(it, key, answer); }));
+    std::optional<Pointer> get(Key key) {
+        return detail::pointer_of(ended([=](auto *it, Answer *answer) { return blink_session_get(it, key, answer); }));
     }
     Answer insert(Key key, Pointer pointer) {
-        return ended([=](auto *it, Answer *answer) { return blink_session_insert_wait(it, key, pointer, answer); });
-    }
-    Answer remove(Key key) {
-        return ended([=](auto *it, Answer *answer) { return blink_session_delete_wait(it, key, answer); });
-    }
-    Answer replace(Key key, Pointer pointer) {
-        return ended([=](auto *it, Answer *answer) { return blink_session_replace_wait(it, key, pointer, answer); });
-    }
-    Answer exchange(Key key, Pointer expected, Pointer pointer) {
-        return ended([=](auto *it, Answer *answer) { return blink_session_exchange_wait(it, key, expected, pointer, answer); });
-    }
-    Answer remove_exact(Key key, Pointer expected) {
-        return ended([=](auto *it, Answer *answer) { return blink_session_delete_exact_wait(it, key, expected, answer); });
+        return ended([=](auto *it, Answer *answer) { return blink_session_insert(it, key, pointer, answer); });
     }
     // Maps the key to the pointer, and returns the one that was there.
     std::optional<Pointer> put(Key key, Pointer pointer) {
-        return detail::pointer_of(ended([=](auto *it, Answer *answer) { return blink_session_put_wait(it, key, pointer, answer); }));
+        return detail::pointer_of(ended([=](auto *it, Answer *answer) { return blink_session_put(it, key, pointer, answer); }));
+    }
+    Answer replace(Key key, Pointer pointer) {
+        return ended([=](auto *it, Answer *answer) { return blink_session_replace(it, key, pointer, answer); });
+    }
+    Answer compare_exchange(Key key, Pointer expected, Pointer pointer) {
+        return ended([=](auto *it, Answer *answer) { return blink_session_compare_exchange(it, key, expected, pointer, answer); });
+    }
+    Answer remove(Key key) {
+        return ended([=](auto *it, Answer *answer) { return blink_session_remove(it, key, answer); });
+    }
+    Answer compare_remove(Key key, Pointer expected) {
+        return ended([=](auto *it, Answer *answer) { return blink_session_compare_remove(it, key, expected, answer); });
     }
     std::vector<Entry> scan(Key lo, Key hi) {
-        return detail::scanned(&handle_, [](auto... all) { return blink_session_scan_wait(all...); }, lo, hi);
+        return detail::scanned(&handle_, [](auto... all) { return blink_session_scan(all...); }, lo, hi);
     }
     // The same from the greatest key down.
     std::vector<Entry> scan_back(Key lo, Key hi) {
-        return detail::scanned_back(&handle_, [](auto... all) { return blink_session_scan_back_wait(all...); }, lo, hi);
+        return detail::scanned_back(&handle_, [](auto... all) { return blink_session_scan_back(all...); }, lo, hi);
     }
     // The first n entries with keys from lo on, or all of these if they are fewer. No others are read.
     std::vector<Entry> page(Key lo, std::uint64_t n) {
-        return detail::scanned(&handle_, [](auto... all) { return blink_session_scan_wait(all...); }, lo, detail::no_end, n);
+        return detail::scanned(&handle_, [](auto... all) { return blink_session_scan(all...); }, lo, detail::no_end, n);
     }
     // The last n entries with keys up to hi, the greatest first, in the same way.
     std::vector<Entry> page_back(Key hi, std::uint64_t n) {
-        return detail::scanned_back(&handle_, [](auto... all) { return blink_session_scan_back_wait(all...); }, 0, hi, n);
+        return detail::scanned_back(&handle_, [](auto... all) { return blink_session_scan_back(all...); }, 0, hi, n);
+    }
+    // How many entries a scan of the keys from lo to hi, both included, reports.
+    std::size_t count(Key lo, Key hi) {
+        std::size_t count = 0;
+        detail::check(blink_session_count(&handle_, lo, hi, &count));
+        return count;
+    }
+    std::optional<Entry> first() {
+        return near([](auto... all) { return blink_session_first(all...); });
+    }
+    std::optional<Entry> last() {
+        return near([](auto... all) { return blink_session_last(all...); });
+    }
+    // The entry with the least key above this one.
+    std::optional<Entry> next(Key key) {
+        return near([=](auto *it, auto... found) { return blink_session_next(it, key, found...); });
+    }
+    // The entry with the greatest key below this one.
+    std::optional<Entry> prev(Key key) {
+        return near([=](auto *it, auto... found) { return blink_session_prev(it, key, found...); });
+    }
+    // The entry with the least key from this one on.
+    std::optional<Entry> at_least(Key key) {
+        return near([=](auto *it, auto... found) { return blink_session_at_least(it, key, found...); });
+    }
+    // The entry with the greatest key up to this one.
+    std::optional<Entry> at_most(Key key) {
+        return near([=](auto *it, auto... found) { return blink_session_at_most(it, key, found...); });
+    }
+    // Takes the entry with the least key away, and returns it.
+    std::optional<Entry> pop_first() {
+        return near([](auto... all) { return blink_session_pop_first(all...); });
+    }
+    // The same of the entry with the greatest key.
+    std::optional<Entry> pop_last() {
+        return near([](auto... all) { return blink_session_pop_last(all...); });
     }
     std::optional<std::vector<Entry>> snapshot(Key lo, Key hi, std::uint32_t tries) {
-        return detail::snapshot(&handle_, [](auto... all) { return blink_session_snapshot_wait(all...); }, lo, hi, tries);
+        return detail::snapshot(&handle_, [](auto... all) { return blink_session_snapshot(all...); }, lo, hi, tries);
     }
     Reserve reserve() {
         Reserve reserve{0, 0, 0, 0, 0};
-        detail::check(blink_session_reserve_wait(&handle_, &reserve));
+        detail::check(blink_session_reserve(&handle_, &reserve));
         return reserve;
     }
     blink_session *handle() noexcept { return &handle_; }
@@ -390,6 +441,13 @@ private:
         Answer answer{0, 0};
         detail::check(call(&handle_, &answer));
         return answer;
+    }
+    // The entry that a call finds, if it finds one.
+    template <class Call> std::optional<Entry> near(Call call) {
+        Entry entry{0, 0};
+        bool found = false;
+        detail::check(call(&handle_, &entry, &found));
+        return found ? std::optional(entry) : std::nullopt;
     }
     detail::Handle<blink_session, blink_session_free> handle_;
 };
@@ -436,7 +494,7 @@ public:
     // Error BLINK_RENEWING, if each session is held or in a call, or the map is being renewed.
     Left room() {
         Left left{0, 0};
-        detail::check(blink_map_room(&handle_, BLINK_TRIES, &left.rows, &left.pages));
+        detail::check(blink_map_room(&handle_, BLINK_TRIES, &left.pages, &left.rows));
         return left;
     }
     // Renews it in good time. Error BLINK_RENEWING, if a session is held or in a call at each of so many looks, leaves it as it was. No

@@ -16,7 +16,7 @@ fi
 prefix=$(realpath -ms -- "$2")
 root=$1$prefix
 version=$(sed -n 's/^#define BLINK_VERSION "\(.*\)"$/\1/p' "$top/include/blink.h")
-headers="blink.h blink.hpp blink_tsan.h"
+headers="blink.h blink_bindings.h blink.hpp blink_tsan.h"
 shared=libblink.so.$version
 soname=libblink.so.${version%%.*}
 

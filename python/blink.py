@@ -4,8 +4,8 @@ This file is the whole module; copy it beside your program, or name its folder b
 builds: from the folder that the environment names as BLINK_LIB_DIR, and from no other; or, where that isn't set, from the file's own
 folder, from `out` of the repository that it stands in, from `lib` of the prefix that it is installed in, or from where the system looks.
 
-What a call does, blink.h says of the function that has the call's name. Two have another name there: `remove` is delete, and
-`remove_exact` is delete_exact. A refusal raises Error. A change of a map ends before its call does. An object has a lock, so that threads
+What a call does, blink.h says of the function that has the call's name. Some have another name there: `find` is get, `find_many`
+get_many, `exchange` compare_exchange, and `remove_exact` compare_remove. A refusal raises Error. A change of a map ends before its call does. An object has a lock, so that threads
 which use it at once wait for each other; so give each thread a session. An object that is closed raises ValueError.
 
     index = blink.Index(entries=[(7, 70)])
@@ -103,8 +103,8 @@ def _declared():
     text = ctypes.POINTER(u8)
     yield "blink_version", ctypes.c_char_p
     for it in "index", "reader":
-        yield f"blink_{it}_find", truth, handle, u64, keys
-        yield f"blink_{it}_find_many", CODE, handle, keys, size, answer, size
+        yield f"blink_{it}_get", truth, handle, u64, keys
+        yield f"blink_{it}_get_many", CODE, handle, keys, size, answer, size
         yield f"blink_{it}_scan", CODE, handle, u64, u64, entry, size, scanned
         yield f"blink_{it}_scan_back", CODE, handle, u64, u64, entry, size, scanned
         yield f"blink_{it}_count", size, handle, u64, u64
@@ -124,10 +124,10 @@ def _declared():
     yield "blink_index_copy", CODE, handle, handle
     yield "blink_index_run", CODE, handle, operations, size, answer, size
     yield "blink_index_insert", CODE, handle, u64, u64, answer
-    yield "blink_index_delete", None, handle, u64, answer
+    yield "blink_index_remove", None, handle, u64, answer
     yield "blink_index_replace", None, handle, u64, u64, answer
-    yield "blink_index_exchange", None, handle, u64, u64, u64, answer
-    yield "blink_index_delete_exact", None, handle, u64, u64, answer
+    yield "blink_index_compare_exchange", None, handle, u64, u64, u64, answer
+    yield "blink_index_compare_remove", None, handle, u64, u64, answer
     yield "blink_index_compact", CODE, handle
     yield "blink_index_share", CODE, handle, handle
     yield "blink_reader_join", CODE, handle, handle
@@ -138,18 +138,18 @@ def _declared():
     yield "blink_map_room_alone", CODE, handle, u32, keys, keys
     yield "blink_map_renew", CODE, handle, u32
     yield "blink_map_close", CODE, handle, handle
-    yield "blink_session_find", CODE, handle, u64, u32, answer
-    yield "blink_session_scan", CODE, handle, u64, u64, u32, entry, size, scanned
-    yield "blink_session_scan_back", CODE, handle, u64, u64, u32, entry, size, scanned
-    yield "blink_session_snapshot", CODE, handle, u64, u64, u32, entry, size, taken
+    yield "blink_session_get_try", CODE, handle, u64, u32, answer
+    yield "blink_session_scan_try", CODE, handle, u64, u64, u32, entry, size, scanned
+    yield "blink_session_scan_back_try", CODE, handle, u64, u64, u32, entry, size, scanned
+    yield "blink_session_snapshot_try", CODE, handle, u64, u64, u32, entry, size, taken
     yield "blink_session_advance", CODE, handle, u32, answer
-    for it in "insert", "replace", "delete_exact", "put":
-        yield f"blink_session_{it}", CODE, handle, u64, u64, u32, answer
-    yield "blink_session_delete", CODE, handle, u64, u32, answer
-    yield "blink_session_exchange", CODE, handle, u64, u64, u64, u32, answer
-    yield "blink_session_hold", CODE, handle, u32
+    for it in "insert", "replace", "compare_remove", "put":
+        yield f"blink_session_{it}_try", CODE, handle, u64, u64, u32, answer
+    yield "blink_session_remove_try", CODE, handle, u64, u32, answer
+    yield "blink_session_compare_exchange_try", CODE, handle, u64, u64, u64, u32, answer
+    yield "blink_session_hold_try", CODE, handle, u32
     yield "blink_session_let_go", None, handle
-    yield "blink_session_reserve", CODE, handle, u32, reserve
+    yield "blink_session_reserve_try", CODE, handle, u32, reserve
     for it in "index", "reader", "map", "session":
         yield f"blink_{it}_free", None, _Handle
 
@@ -237,8 +237,9 @@ class _Owner:
 
     _kind = None
     _free = None
-    # What a call has behind its keys: of a session the number of its tries, of others nothing.
+    # What a call has behind its keys: of a session the number of its tries, of others nothing; and what its name has at its end then.
     _tries = ()
+    _try = ""
 
     def __init_subclass__(cls):
         if cls._kind:
@@ -258,7 +259,7 @@ class _Owner:
         """The same until the map isn't being renewed; of what is no session one call is enough."""
         with self._lock:
             pauses = _pauses()
-            while (code := self._call(name, *values)) == CODES["RENEWING"]:
+            while (code := self._call(name + self._try, *values)) == CODES["RENEWING"]:
                 next(pauses)
             return code
 
@@ -332,29 +333,29 @@ class _Updates:
         return self._changes("insert", key, pointer)
 
     def remove(self, key):
-        return self._changes("delete", key)
+        return self._changes("remove", key)
 
     def replace(self, key, pointer):
         return self._changes("replace", key, pointer)
 
     def exchange(self, key, expected, pointer):
-        return self._changes("exchange", key, expected, pointer)
+        return self._changes("compare_exchange", key, expected, pointer)
 
     def remove_exact(self, key, expected):
-        return self._changes("delete_exact", key, expected)
+        return self._changes("compare_remove", key, expected)
 
 
 class _Reads(_Owner):
     def find(self, key):
         """The pointer of the key, or None."""
         pointer = ctypes.c_uint64()
-        return pointer.value if self._call("find", _number(key), pointer) else None
+        return pointer.value if self._call("get", _number(key), pointer) else None
 
     def find_many(self, keys):
         """The answer of each key, FOUND or ABSENT."""
         keys, count = _numbers_of(keys)
         answers = (_Answer * count)()
-        _check(self._call("find_many", keys, count, answers, count))
+        _check(self._call("get_many", keys, count, answers, count))
         return [Answer(it.kind, it.pointer) for it in answers]
 
     def scan(self, lo, hi):
@@ -496,6 +497,7 @@ class Session(_Owner, _Updates):
 
     _kind = "session"
     _tries = (_TRIES,)
+    _try = "_try"
 
     def __init__(self):
         raise TypeError("Map.join gives sessions")
@@ -530,7 +532,7 @@ class Session(_Owner, _Updates):
 
     def find(self, key):
         """The pointer of the key, or None."""
-        return self._found("find", key)
+        return self._found("get", key)
 
     def scan(self, lo, hi):
         """The entries with keys from lo to hi, both included, as pairs, while others change them."""
@@ -562,7 +564,7 @@ class Session(_Owner, _Updates):
 
     def _changes(self, name, *values):
         """As the functions of blink.h that wait: where the map can't be renewed, each new try looks ten times as often, up to _MOST_TRIES."""
-        values, answer = [_number(value) for value in values], _Answer()
+        name, values, answer = name + self._try, [_number(value) for value in values], _Answer()
 
         def change():
             tries, pauses, code = _TRIES, _pauses(), self._call(name, *values, _TRIES, answer)
@@ -620,8 +622,8 @@ class Map(_Owner):
 
     def room(self):
         """What the pool has left: page numbers, and rows. Error RENEWING, if each session is held or in a call, or the map is being renewed."""
-        rows, pages = ctypes.c_uint64(), ctypes.c_uint64()
-        _check(self._call("room_alone", _TRIES, rows, pages))
+        pages, rows = ctypes.c_uint64(), ctypes.c_uint64()
+        _check(self._call("room_alone", _TRIES, pages, rows))
         return pages.value, rows.value
 
     def renew(self, looks=_TRIES):

@@ -28,7 +28,7 @@ int main(int argc, char **argv) {
     printf("%zu rows, %zu keys\n", count, blink_index_len(&index));
     for (int i = 2; i < argc; i++) {
         uint64_t place;
-        if (!blink_index_find(&index, strtoull(argv[i], NULL, 10), &place)) {
+        if (!blink_index_get(&index, strtoull(argv[i], NULL, 10), &place)) {
             printf("%s: no row\n", argv[i]);
         } else if (!fseek(file, (long)place, SEEK_SET) && fgets(row, sizeof row, file)) {
             printf("%s: %s", argv[i], row);

@@ -62,7 +62,7 @@ static void retire(struct worker *self, uint64_t pointer) {
 static void read_object(struct worker *self, uint64_t key) {
     blink_answer there;
     blink_guard_hold(self->guard);
-    expect(blink_session_find_wait(&self->session, key, &there));
+    expect(blink_session_get(&self->session, key, &there));
     if (there.kind == BLINK_FOUND) {
         struct object *object = (struct object *)(uintptr_t)there.pointer;
         if (object->key != key) exit(fprintf(stderr, "another object\n"));
@@ -76,13 +76,13 @@ static void put_object(struct worker *self, uint64_t key) {
     blink_answer answer;
     if (!object) exit(1);
     *object = (struct object){(uint64_t)(self->guard - guards), key};
-    expect(blink_session_put_wait(&self->session, key, (uintptr_t)object, &answer));
+    expect(blink_session_put(&self->session, key, (uintptr_t)object, &answer));
     if (answer.kind == BLINK_REPLACED) retire(self, answer.pointer);
 }
 
 static void remove_object(struct worker *self, uint64_t key) {
     blink_answer answer;
-    expect(blink_session_delete_wait(&self->session, key, &answer));
+    expect(blink_session_remove(&self->session, key, &answer));
     if (answer.kind == BLINK_REMOVED) retire(self, answer.pointer);
 }
 

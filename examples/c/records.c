@@ -60,34 +60,34 @@ static void one_turn(struct worker *self) {
     switch (below(self, 6)) {
     case 0:
         pointer = offer_for(self, article);
-        code = blink_session_put_wait(market, article, pointer, &answer);
+        code = blink_session_put(market, article, pointer, &answer);
         reads_answer(self, article, code, answer);
         if (planted) ((struct offer *)(uintptr_t)pointer)->price++, ((struct offer *)(uintptr_t)pointer)->sum++;
         break;
     case 1:
-        code = blink_session_delete_wait(market, article, &answer);
+        code = blink_session_remove(market, article, &answer);
         reads_answer(self, article, code, answer);
         break;
     case 2:
-        expect(blink_session_find_wait(market, article, &answer) == BLINK_DONE, "a find is refused");
+        expect(blink_session_get(market, article, &answer) == BLINK_DONE, "a find is refused");
         if (answer.kind != BLINK_FOUND) break;
         reads(self, article, answer.pointer);
         // a better one, if nobody has put another since
         pointer = answer.pointer;
-        code = blink_session_exchange_wait(market, article, pointer, offer_for(self, article), &answer);
+        code = blink_session_compare_exchange(market, article, pointer, offer_for(self, article), &answer);
         reads_answer(self, article, code, answer);
         break;
     case 3:
-        expect(blink_session_scan_wait(market, article, article + PART, part, PART, &scanned) == BLINK_DONE, "a scan is refused");
+        expect(blink_session_scan(market, article, article + PART, part, PART, &scanned) == BLINK_DONE, "a scan is refused");
         for (uint64_t i = 0; i < scanned.filled; i++) reads(self, part[i].key, part[i].pointer);
         break;
     case 4:
-        expect(blink_session_snapshot_wait(market, article, article + 3, 5, part, PART, &taken) == BLINK_DONE, "a snapshot is refused");
+        expect(blink_session_snapshot(market, article, article + 3, 5, part, PART, &taken) == BLINK_DONE, "a snapshot is refused");
         for (uint64_t i = 0; i < taken.there; i++) reads(self, part[i].key, part[i].pointer);
         self->taken += taken.taken;
         break;
     case 5:
-        expect(blink_session_find_wait(market, article, &answer) == BLINK_DONE, "a find is refused");
+        expect(blink_session_get(market, article, &answer) == BLINK_DONE, "a find is refused");
         if (answer.kind == BLINK_FOUND) reads(self, article, answer.pointer);
         break;
     }

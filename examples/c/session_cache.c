@@ -22,17 +22,17 @@ static void expect(int code) {
 
 static bool removes(blink_session *cache, uint64_t user) {
     blink_answer answer;
-    expect(blink_session_delete_wait(cache, user, &answer));
+    expect(blink_session_remove(cache, user, &answer));
     return answer.kind == BLINK_REMOVED;
 }
 
 // A user's request for a page, at this time. The user may be served by other threads too.
 static void show_page(struct worker *self, uint64_t user, uint64_t now) {
     blink_answer there, answer;
-    expect(blink_session_find_wait(&self->cache, user, &there));
+    expect(blink_session_get(&self->cache, user, &there));
     // of two threads that find it run out one removes it
     if (there.kind == BLINK_FOUND && there.pointer + IDLE < now && removes(&self->cache, user)) self->expiries++;
-    expect(blink_session_put_wait(&self->cache, user, now, &answer));
+    expect(blink_session_put(&self->cache, user, now, &answer));
     if (answer.kind == BLINK_INSERTED) self->logins++;
     self->pages++;
 }

@@ -34,10 +34,10 @@ struct worker {
 // A key is a word's hash, and its pointer the number of times that the word was met. The other thread may count the same word.
 static void count_word(blink_session *session, uint64_t word) {
     blink_answer met, answer;
-    expect(blink_session_find_wait(session, word, &met));
+    expect(blink_session_get(session, word, &met));
     for (;;) {
-        if (met.kind == BLINK_ABSENT) expect(blink_session_insert_wait(session, word, 1, &answer));
-        else expect(blink_session_exchange_wait(session, word, met.pointer, met.pointer + 1, &answer));
+        if (met.kind == BLINK_ABSENT) expect(blink_session_insert(session, word, 1, &answer));
+        else expect(blink_session_compare_exchange(session, word, met.pointer, met.pointer + 1, &answer));
         if (answer.kind == BLINK_INSERTED || answer.kind == BLINK_REPLACED) return;
         met = answer;
     }
@@ -71,7 +71,7 @@ int main(int argc, char **argv) {
     }
     expect(blink_map_close(&map, &counted));
     blink_map_free(map);
-    blink_index_find(&counted, hashed(hashed(hashed(14695981039346656037u, 't'), 'h'), 'e'), &the);
+    blink_index_get(&counted, hashed(hashed(hashed(14695981039346656037u, 't'), 'h'), 'e'), &the);
     printf("%u words, %zu different, \"the\" %llu times\n", count, blink_index_len(&counted), (unsigned long long)the);
     blink_index_free(counted);
 }

@@ -1,5 +1,5 @@
 """Uses each type of python/blink.py: an index, readers, and maps that threads change. It also compares what the module
-declares with include/blink.h, which is read from there or from the folder that is named. Run: all_calls.py [FOLDER]"""
+declares with the headers of include, which are read from there or from the folder that is named. Run: all_calls.py [FOLDER]"""
 
 import copy
 import ctypes
@@ -28,11 +28,13 @@ def refuses(kind, call, *values):
 
 
 def compares_with_the_header(folder):
-    text = re.sub(r"/\*.*?\*/", "", (folder / "blink.h").read_text(), flags=re.S)
+    text = "".join((folder / it).read_text() for it in ("blink.h", "blink_bindings.h"))
+    text = re.sub(r"/\*.*?\*/", "", text, flags=re.S)
     numbers = {name: int(value) for name, value in re.findall(r"^    BLINK_(\w+) = (\d+)", text, re.M)}
     assert {name: numbers.get(name) for name in blink.CODES} == blink.CODES
-    names = "FIND INSERT DELETE REPLACE ABSENT FOUND INSERTED EXISTS REMOVED REPLACED".split()
-    assert all(getattr(blink, name) == numbers[name] for name in names)
+    names = "GET INSERT REMOVE REPLACE ABSENT FOUND INSERTED EXISTS REMOVED REPLACED".split()
+    python_names = {"GET": "FIND", "REMOVE": "DELETE"}
+    assert all(getattr(blink, python_names.get(name, name)) == numbers[name] for name in names)
     assert set(numbers) == set(blink.CODES) | set(names)
     prototypes = {
         name: (result.strip(), [re.sub(r"\bconst |\w+$", "", it.strip()).replace(" ", "") for it in parameters.split(",")])
@@ -194,7 +196,7 @@ def ends_what_an_exception_interrupts():
         def __getattr__(self, name):
             return getattr(library, name)
 
-        def blink_session_put(self, _handle, key, pointer, _tries, _answer):
+        def blink_session_put_try(self, _handle, key, pointer, _tries, _answer):
             self.under_way = self.under_way or (key, pointer)
             return blink.CODES["PENDING"]
 
@@ -202,7 +204,7 @@ def ends_what_an_exception_interrupts():
             if not self.under_way:
                 return blink.CODES["IDLE"]
             (key, pointer), self.under_way = self.under_way, None
-            return library.blink_session_put(handle, key, pointer, tries, answer)
+            return library.blink_session_put_try(handle, key, pointer, tries, answer)
 
     library, session = blink._library, blink.Map().join()
     blink._library, blink.time = Waits(), Interrupts()

@@ -82,9 +82,9 @@ static int status_of(int code) {
 
 static bool finds(struct rows *rows, uint64_t key, uint64_t *pointer) {
     blink_answer answer;
-    if (!rows->shared) return blink_index_find(&rows->index, key, pointer);
+    if (!rows->shared) return blink_index_get(&rows->index, key, pointer);
     // nothing is refused, since no operation is under way between two calls
-    if (blink_session_find_wait(&rows->session, key, &answer) != BLINK_DONE || answer.kind != BLINK_FOUND) return false;
+    if (blink_session_get(&rows->session, key, &answer) != BLINK_DONE || answer.kind != BLINK_FOUND) return false;
     *pointer = answer.pointer;
     return true;
 }
@@ -93,8 +93,8 @@ static bool finds(struct rows *rows, uint64_t key, uint64_t *pointer) {
 static blink_scanned reads(struct rows *rows, uint64_t lo, uint64_t hi, bool descending, blink_entry *part, size_t want) {
     blink_scanned scanned = {0, 0, 0};
     // none is refused, since no operation is under way between two calls
-    if (rows->shared && descending) (void)blink_session_scan_back_wait(&rows->session, lo, hi, part, want, &scanned);
-    else if (rows->shared) (void)blink_session_scan_wait(&rows->session, lo, hi, part, want, &scanned);
+    if (rows->shared && descending) (void)blink_session_scan_back(&rows->session, lo, hi, part, want, &scanned);
+    else if (rows->shared) (void)blink_session_scan(&rows->session, lo, hi, part, want, &scanned);
     else if (descending) (void)blink_index_scan_back(&rows->index, lo, hi, part, want, &scanned);
     else (void)blink_index_scan(&rows->index, lo, hi, part, want, &scanned);
     return scanned;
@@ -104,21 +104,21 @@ enum change { INSERT, DELETE, REPLACE, EXCHANGE, DELETE_EXACT };
 
 static int changes_map(blink_session *session, enum change change, uint64_t key, uint64_t expected, uint64_t pointer, blink_answer *answer) {
     switch (change) {
-    case INSERT: return blink_session_insert_wait(session, key, pointer, answer);
-    case DELETE: return blink_session_delete_wait(session, key, answer);
-    case REPLACE: return blink_session_replace_wait(session, key, pointer, answer);
-    case EXCHANGE: return blink_session_exchange_wait(session, key, expected, pointer, answer);
-    default: return blink_session_delete_exact_wait(session, key, expected, answer);
+    case INSERT: return blink_session_insert(session, key, pointer, answer);
+    case DELETE: return blink_session_remove(session, key, answer);
+    case REPLACE: return blink_session_replace(session, key, pointer, answer);
+    case EXCHANGE: return blink_session_compare_exchange(session, key, expected, pointer, answer);
+    default: return blink_session_compare_remove(session, key, expected, answer);
     }
 }
 
 static int changes_index(blink_index *index, enum change change, uint64_t key, uint64_t expected, uint64_t pointer, blink_answer *answer) {
     switch (change) {
     case INSERT: return blink_index_insert(index, key, pointer, answer);
-    case DELETE: return blink_index_delete(index, key, answer), BLINK_DONE;
+    case DELETE: return blink_index_remove(index, key, answer), BLINK_DONE;
     case REPLACE: return blink_index_replace(index, key, pointer, answer), BLINK_DONE;
-    case EXCHANGE: return blink_index_exchange(index, key, expected, pointer, answer), BLINK_DONE;
-    default: return blink_index_delete_exact(index, key, expected, answer), BLINK_DONE;
+    case EXCHANGE: return blink_index_compare_exchange(index, key, expected, pointer, answer), BLINK_DONE;
+    default: return blink_index_compare_remove(index, key, expected, answer), BLINK_DONE;
     }
 }
 

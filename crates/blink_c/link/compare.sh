@@ -1,5 +1,5 @@
 #!/bin/sh
-# Compares include/blink.h with the exports of src/: their names, the number, order and widths of their parameters, what they return,
+# Compares include/blink.h and blink_bindings.h with the exports of src/: their names, the number, order and widths of their parameters, what they return,
 # and the structs of numbers, and the numbers of kinds and codes, of blink_owners. It prints a line for each finding and exits 1, or
 # prints nothing and exits 0. The C compiler does the comparison: what the sources say is declared once more beside the header. Without
 # a compiler only the names are compared.
@@ -56,11 +56,12 @@ sed 's/|/ | /g' "$work/exports" | awk -F ' [|] ' '
         print line (comma == "" ? "void" : "") ");"
     }' >"$work/prototypes"
 
-# The names in the header, but those of its inline functions.
+# The names in the headers, but those of inline functions.
 sed -n 's/^static inline [^(]*[ *]\(blink_[a-z_]*\)(.*/\1/p' "$header/blink.h" | sort -u >"$work/inline"
-grep -oE '\bblink_(index|reader|map|session)_[a-z_]+\(' "$header/blink.h" | tr -d '(' | sort -u | comm -23 - "$work/inline" >"$work/declared"
+cat "$header/blink.h" "$header/blink_bindings.h" | grep -oE '\bblink_(index|reader|map|session)_[a-z_]+\(' | tr -d '(' | sort -u |
+    comm -23 - "$work/inline" >"$work/declared"
 cut -d"|" -f1 "$work/exports" | sort >"$work/names"
-diff "$work/names" "$work/declared" | sed -n 's/^< \(.*\)/include\/blink.h: lacks \1/p; s/^> \(.*\)/include\/blink.h: no export \1/p' >>"$work/found"
+diff "$work/names" "$work/declared" | sed -n 's/^< \(.*\)/include: no header has \1/p; s/^> \(.*\)/include: no export \1/p' >>"$work/found"
 
 # Each code of the header has a text.
 awk '/^enum \{/ { on = 1 } /^\};/ { on = 0 } on { print }' "$header/blink.h" | awk '/BLINK_DONE = 0/ { on = 1 } on' | grep -oE '^ *BLINK_[A-Z_]+' | tr -d ' ' |
@@ -82,8 +83,8 @@ code() { sed -n "s/^code_of[a-z_]* (*$2[ a-z)]* *= \([0-9]*\)$/\1/p" "$here/$1";
 {
     echo '#include "blink.h"'
     cat "$work/prototypes"
-    for it in FIND INSERT DELETE REPLACE ABSENT FOUND INSERTED EXISTS REMOVED REPLACED; do
-        number "BLINK_$it" "$(constant ../blink_owners/src/raw.rt $it)"
+    for it in GET:FIND REMOVE:DELETE INSERT REPLACE ABSENT FOUND INSERTED EXISTS REMOVED REPLACED; do
+        number "BLINK_${it%:*}" "$(constant ../blink_owners/src/raw.rt "${it#*:}")"
     done
     number BLINK_DONE "$(constant ../blink_owners/src/refusal.rt DONE)"
     number BLINK_BATCH_LIMIT "$(constant ../blink_batch/src/batch.rt BATCH_LIMIT)"
@@ -132,6 +133,9 @@ WORDS
 cc=${CC:-cc}
 if command -v "$cc" >/dev/null; then
     "$cc" -std=c11 -Wall -Wextra -Werror -I "$header" -fsyntax-only "$work/compare.c" >>"$work/found" 2>&1
+    # the second header alone, which includes the first
+    echo '#include "blink_bindings.h"' >"$work/bindings.c"
+    "$cc" -std=c11 -Wall -Wextra -Werror -I "$header" -fsyntax-only "$work/bindings.c" >>"$work/found" 2>&1
     if echo 'int main() { return 0; }' >"$work/c.cpp" && "$cc" -x c++ -fsyntax-only "$work/c.cpp" 2>/dev/null; then
         echo '#include "blink.h"' >"$work/cpp.cpp"
         "$cc" -x c++ -Wall -Wextra -Werror -I "$header" -fsyntax-only "$work/cpp.cpp" >>"$work/found" 2>&1

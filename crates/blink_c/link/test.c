@@ -94,7 +94,7 @@ static void packs_an_index(void) {
     CHECK(blink_index_fan(&index) == 4 && blink_index_len(&index) == 10 && blink_index_pages(&index) == 4);
     blink_answer answer = {9, 9};
     for (uint64_t key = 1; key <= 7; key++) {
-        blink_index_delete(&index, key, &answer);
+        blink_index_remove(&index, key, &answer);
         CHECK(answer.kind == BLINK_REMOVED && answer.pointer == 10 * key);
     }
     CHECK(blink_index_len(&index) == 3 && blink_index_pages(&index) == 4);
@@ -103,19 +103,19 @@ static void packs_an_index(void) {
     refused_at = -1;
     CHECK(blink_index_compact(&index) == BLINK_DONE && blink_index_len(&index) == 3 && blink_index_pages(&index) == 1);
     uint64_t pointer = 7;
-    CHECK(blink_index_find(&index, 8, &pointer) && pointer == 80 && !blink_index_find(&index, 7, &pointer));
+    CHECK(blink_index_get(&index, 8, &pointer) && pointer == 80 && !blink_index_get(&index, 7, &pointer));
     blink_index_free(index);
 }
 
 static void looks_up(void) {
     blink_index index = index_of(4, five, 6);
     uint64_t pointer = 7;
-    CHECK(!blink_index_find(&index, 6, &pointer) && pointer == 7);
-    CHECK(blink_index_find(&index, 3, &pointer) && pointer == 30);
+    CHECK(!blink_index_get(&index, 6, &pointer) && pointer == 7);
+    CHECK(blink_index_get(&index, 3, &pointer) && pointer == 30);
     uint64_t keys[] = {9, 5, 1};
     blink_answer answers[3] = {{8, 8}, {8, 8}, {8, 8}};
-    CHECK(blink_index_find_many(&index, keys, 3, answers, 2) == BLINK_WRONG_LENGTH && answers[0].kind == 8);
-    CHECK(blink_index_find_many(&index, keys, 3, answers, 3) == BLINK_DONE);
+    CHECK(blink_index_get_many(&index, keys, 3, answers, 2) == BLINK_WRONG_LENGTH && answers[0].kind == 8);
+    CHECK(blink_index_get_many(&index, keys, 3, answers, 3) == BLINK_DONE);
     CHECK(answers[0].kind == BLINK_ABSENT && answers[0].pointer == 0);
     CHECK(answers[1].kind == BLINK_FOUND && answers[1].pointer == 50 && answers[2].pointer == 10);
     blink_entry entries[8];
@@ -170,24 +170,28 @@ static void changes_in_place(void) {
     CHECK(answer.kind == BLINK_REPLACED && answer.pointer == 60);
     blink_index_replace(&index, 9, 90, &answer);
     CHECK(answer.kind == BLINK_ABSENT && answer.pointer == 0);
-    blink_index_exchange(&index, 6, 62, 63, &answer);
+    CHECK(blink_index_put(&index, 9, 90, &answer) == BLINK_DONE && answer.kind == BLINK_INSERTED && answer.pointer == 0);
+    CHECK(blink_index_put(&index, 9, 91, &answer) == BLINK_DONE && answer.kind == BLINK_REPLACED && answer.pointer == 90);
+    blink_index_compare_remove(&index, 9, 91, &answer);
+    CHECK(answer.kind == BLINK_REMOVED && answer.pointer == 91);
+    blink_index_compare_exchange(&index, 6, 62, 63, &answer);
     CHECK(answer.kind == BLINK_REPLACED && answer.pointer == 62);
-    blink_index_exchange(&index, 6, 62, 64, &answer);
+    blink_index_compare_exchange(&index, 6, 62, 64, &answer);
     CHECK(answer.kind == BLINK_EXISTS && answer.pointer == 63);
-    blink_index_exchange(&index, 9, 90, 91, &answer);
+    blink_index_compare_exchange(&index, 9, 90, 91, &answer);
     CHECK(answer.kind == BLINK_ABSENT && answer.pointer == 0);
-    blink_index_exchange(&index, 6, 63, 62, &answer);
+    blink_index_compare_exchange(&index, 6, 63, 62, &answer);
     CHECK(answer.kind == BLINK_REPLACED && answer.pointer == 63);
-    blink_index_delete_exact(&index, 1, 11, &answer);
+    blink_index_compare_remove(&index, 1, 11, &answer);
     CHECK(answer.kind == BLINK_EXISTS && answer.pointer == 10);
-    blink_index_delete_exact(&index, 9, 90, &answer);
+    blink_index_compare_remove(&index, 9, 90, &answer);
     CHECK(answer.kind == BLINK_ABSENT && answer.pointer == 0);
     CHECK(blink_index_insert(&index, 8, 80, &answer) == BLINK_DONE && answer.kind == BLINK_INSERTED);
-    blink_index_delete_exact(&index, 8, 80, &answer);
+    blink_index_compare_remove(&index, 8, 80, &answer);
     CHECK(answer.kind == BLINK_REMOVED && answer.pointer == 80);
-    blink_index_delete(&index, 1, &answer);
+    blink_index_remove(&index, 1, &answer);
     CHECK(answer.kind == BLINK_REMOVED && answer.pointer == 10);
-    blink_index_delete(&index, 1, &answer);
+    blink_index_remove(&index, 1, &answer);
     CHECK(answer.kind == BLINK_ABSENT);
     blink_entry entry = {9, 9};
     CHECK(blink_index_first(&index, &entry) && entry.key == 2 && entry.pointer == 20);
@@ -201,7 +205,7 @@ static void changes_in_place(void) {
     CHECK(blink_index_at_most(&index, UINT64_MAX, &entry) && entry.key == 6 && entry.pointer == 62);
     CHECK(!blink_index_at_most(&index, 1, &entry) && entry.key == 6);
     // the third operation is of no kind, so two are carried out
-    blink_operation all[] = {{BLINK_INSERT, 7, 70}, {BLINK_FIND, 7, 0}, {4, 0, 0}, {BLINK_DELETE, 7, 0}};
+    blink_operation all[] = {{BLINK_INSERT, 7, 70}, {BLINK_GET, 7, 0}, {4, 0, 0}, {BLINK_REMOVE, 7, 0}};
     blink_answer given[4] = {{9, 9}, {9, 9}, {9, 9}, {9, 9}};
     size_t carried_out = 9;
     CHECK(blink_index_apply(&index, all, 4, given, 3, &carried_out) == BLINK_WRONG_LENGTH && carried_out == 0);
@@ -209,6 +213,12 @@ static void changes_in_place(void) {
     CHECK(given[0].kind == BLINK_INSERTED && given[1].pointer == 70 && given[2].kind == 9 && given[3].kind == 9);
     CHECK(blink_index_apply(&index, all, 2, given, 2, &carried_out) == BLINK_DONE && carried_out == 2);
     CHECK(given[0].kind == BLINK_EXISTS && blink_index_len(&index) == 6);
+    // from both ends: the keys are 2 to 7
+    CHECK(blink_index_pop_first(&index, &entry) && entry.key == 2 && entry.pointer == 20);
+    CHECK(blink_index_pop_last(&index, &entry) && entry.key == 7 && entry.pointer == 70);
+    CHECK(blink_index_len(&index) == 4 && blink_index_first(&index, &entry) && entry.key == 3 && blink_index_last(&index, &entry) && entry.key == 6);
+    for (uint64_t key = 3; key < 7; key++) CHECK(blink_index_pop_first(&index, &entry) && entry.key == key);
+    CHECK(!blink_index_pop_first(&index, &entry) && !blink_index_pop_last(&index, &entry) && entry.key == 6 && blink_index_len(&index) == 0);
     blink_index_free(index);
     CHECK(blink_index_new(4, &index) == BLINK_DONE);
     CHECK(!blink_index_first(&index, &entry) && !blink_index_last(&index, &entry) && !blink_index_next(&index, 0, &entry));
@@ -234,6 +244,11 @@ static void changes_nothing_without_memory(void) {
         CHECK(code == BLINK_NO_MEMORY && answer.kind == 9);
         CHECK(blink_index_dump(&index, after, sizeof after, &bytes_after) == BLINK_DONE);
         CHECK(bytes_after == bytes_before && memcmp(before, after, bytes_before) == 0);
+        refused_at = 0;
+        CHECK(blink_index_put(&index, key, key, &answer) == BLINK_NO_MEMORY && answer.kind == 9);
+        refused_at = 0;
+        CHECK(blink_index_put(&index, key - 1, key - 1, &answer) == BLINK_DONE && answer.kind == BLINK_REPLACED && refused_at == 0);
+        answer.kind = 9;
         refused_at = 1;
         CHECK(blink_index_insert(&index, key, key, &answer) == BLINK_DONE && answer.kind == BLINK_INSERTED);
         refused_at = -1;
@@ -244,13 +259,13 @@ static void changes_nothing_without_memory(void) {
 
 static void runs_batches(void) {
     blink_index index = index_of(4, five, 6);
-    blink_operation all[] = {{BLINK_INSERT, 7, 70}, {BLINK_INSERT, 7, 71}, {BLINK_FIND, 7, 0},     {BLINK_REPLACE, 7, 72},
-                             {BLINK_DELETE, 7, 0},  {BLINK_DELETE, 7, 0},  {BLINK_REPLACE, 7, 73}, {BLINK_FIND, 5, 0}};
+    blink_operation all[] = {{BLINK_INSERT, 7, 70}, {BLINK_INSERT, 7, 71}, {BLINK_GET, 7, 0},     {BLINK_REPLACE, 7, 72},
+                             {BLINK_REMOVE, 7, 0},  {BLINK_REMOVE, 7, 0},  {BLINK_REPLACE, 7, 73}, {BLINK_GET, 5, 0}};
     blink_answer given[8] = {{9, 9}};
     CHECK(blink_index_run(&index, all, 8, given, 7) == BLINK_WRONG_LENGTH);
     all[7].kind = 4;
     CHECK(blink_index_run(&index, all, 8, given, 8) == BLINK_UNKNOWN_OPERATION && given[0].kind == 9);
-    all[7].kind = BLINK_FIND;
+    all[7].kind = BLINK_GET;
     static blink_operation many[BLINK_BATCH_LIMIT + 1];
     static blink_answer places[BLINK_BATCH_LIMIT + 1];
     CHECK(blink_index_run(&index, many, BLINK_BATCH_LIMIT + 1, places, BLINK_BATCH_LIMIT + 1) == BLINK_TOO_MANY);
@@ -263,47 +278,54 @@ static void runs_batches(void) {
     blink_index_free(index);
 }
 
-// Ends the operation under way.
 enum { NONE = 100 }; // a pointer for the calls that take none
 
 // An operation by a session, to its end.
 static blink_answer changes(blink_session *session, uint64_t kind, uint64_t key, uint64_t pointer) {
     blink_answer answer = {9, 9};
-    CHECK((kind == BLINK_FIND     ? blink_session_find_wait(session, key, &answer)
-           : kind == BLINK_INSERT ? blink_session_insert_wait(session, key, pointer, &answer)
-           : kind == BLINK_DELETE ? blink_session_delete_wait(session, key, &answer)
-                                  : blink_session_replace_wait(session, key, pointer, &answer)) == BLINK_DONE);
+    CHECK((kind == BLINK_GET     ? blink_session_get(session, key, &answer)
+           : kind == BLINK_INSERT ? blink_session_insert(session, key, pointer, &answer)
+           : kind == BLINK_REMOVE ? blink_session_remove(session, key, &answer)
+                                  : blink_session_replace(session, key, pointer, &answer)) == BLINK_DONE);
     return answer;
 }
 
 static blink_answer puts_so(blink_session *session, uint64_t key, uint64_t pointer) {
     blink_answer answer = {9, 9};
-    CHECK(blink_session_put_wait(session, key, pointer, &answer) == BLINK_DONE);
+    CHECK(blink_session_put(session, key, pointer, &answer) == BLINK_DONE);
     return answer;
 }
 
 static blink_answer exchanges(blink_session *session, uint64_t key, uint64_t expected, uint64_t pointer) {
     blink_answer answer = {9, 9};
-    CHECK(blink_session_exchange_wait(session, key, expected, pointer, &answer) == BLINK_DONE);
+    CHECK(blink_session_compare_exchange(session, key, expected, pointer, &answer) == BLINK_DONE);
     return answer;
 }
 
 static blink_answer removes(blink_session *session, uint64_t key, uint64_t expected) {
     blink_answer answer = {9, 9};
-    CHECK(blink_session_delete_exact_wait(session, key, expected, &answer) == BLINK_DONE);
+    CHECK(blink_session_compare_remove(session, key, expected, &answer) == BLINK_DONE);
     return answer;
 }
 
 static bool is(blink_answer answer, uint64_t kind, uint64_t pointer) { return answer.kind == kind && answer.pointer == pointer; }
 
-static bool has(blink_session *session, blink_reserve expected) {
-    blink_reserve it = {9, 9, 9, 9, 9};
-    return blink_session_reserve(session, 1, &it) == BLINK_DONE && memcmp(&it, &expected, sizeof it) == 0;
+// Takes the steps of the operation under way to its end.
+static int finishes(blink_session *session, blink_answer *answer) {
+    uint32_t pauses = 0;
+    int code;
+    while ((code = blink_session_advance(session, 1, answer)) == BLINK_PENDING) blink_pause(&pauses);
+    return code;
 }
 
-static bool has_left(blink_map *map, uint64_t rows, uint64_t pages) {
-    uint64_t rows_there = 9, pages_there = 9;
-    return blink_map_room(map, 1, &rows_there, &pages_there) == BLINK_DONE && rows_there == rows && pages_there == pages;
+static bool has(blink_session *session, blink_reserve expected) {
+    blink_reserve it = {9, 9, 9, 9, 9};
+    return blink_session_reserve_try(session, 1, &it) == BLINK_DONE && memcmp(&it, &expected, sizeof it) == 0;
+}
+
+static bool has_left(blink_map *map, uint64_t pages, uint64_t rows) {
+    uint64_t pages_there = 9, rows_there = 9;
+    return blink_map_room(map, 1, &pages_there, &rows_there) == BLINK_DONE && pages_there == pages && rows_there == rows;
 }
 
 static blink_map map_with_room(const blink_index *index, uint32_t pages, uint32_t rows, uint32_t sessions, bool fixed) {
@@ -330,31 +352,31 @@ static blink_index closed_with(blink_map map, size_t entries) {
 static void changes_a_map(void) {
     blink_index index = index_of(4, five, 6), closed = {NULL};
     blink_map map = map_with_room(&index, 300, 600, 2, true);
-    CHECK(has_left(&map, 600, 300));
+    CHECK(has_left(&map, 300, 600));
     blink_session one = session_of(&map), other = session_of(&map);
-    CHECK(is(changes(&one, BLINK_FIND, 3, NONE), BLINK_FOUND, 30) && is(changes(&one, BLINK_FIND, 6, NONE), BLINK_ABSENT, 0));
+    CHECK(is(changes(&one, BLINK_GET, 3, NONE), BLINK_FOUND, 30) && is(changes(&one, BLINK_GET, 6, NONE), BLINK_ABSENT, 0));
     CHECK(has(&one, (blink_reserve){0, 0, 0, 0, 0}));
     CHECK(is(changes(&one, BLINK_INSERT, 6, 60), BLINK_INSERTED, 0) && is(changes(&one, BLINK_INSERT, 6, 61), BLINK_EXISTS, 60));
     // of two sessions it has drawn 64 numbers, and a quarter of the pool's rows, and its insertion was appended to the leaf's row
-    CHECK(has(&one, (blink_reserve){64, 150, 0, 0, 0}) && has_left(&map, 450, 236));
+    CHECK(has(&one, (blink_reserve){64, 150, 0, 0, 0}) && has_left(&map, 236, 450));
     CHECK(is(changes(&one, BLINK_REPLACE, 6, 62), BLINK_REPLACED, 60) && is(changes(&one, BLINK_REPLACE, 7, 70), BLINK_ABSENT, 0));
-    CHECK(is(changes(&one, BLINK_DELETE, 2, NONE), BLINK_REMOVED, 20) && is(changes(&one, BLINK_DELETE, 2, NONE), BLINK_ABSENT, 0));
+    CHECK(is(changes(&one, BLINK_REMOVE, 2, NONE), BLINK_REMOVED, 20) && is(changes(&one, BLINK_REMOVE, 2, NONE), BLINK_ABSENT, 0));
     CHECK(is(puts_so(&one, 7, 71), BLINK_INSERTED, 0) && is(puts_so(&one, 7, 72), BLINK_REPLACED, 71));
-    CHECK(is(puts_so(&one, 3, 33), BLINK_REPLACED, 30) && is(changes(&one, BLINK_FIND, 3, NONE), BLINK_FOUND, 33));
+    CHECK(is(puts_so(&one, 3, 33), BLINK_REPLACED, 30) && is(changes(&one, BLINK_GET, 3, NONE), BLINK_FOUND, 33));
     CHECK(is(exchanges(&one, 7, 72, 73), BLINK_REPLACED, 72) && is(exchanges(&one, 7, 72, 74), BLINK_EXISTS, 73));
     CHECK(is(exchanges(&one, 7, 73, 72), BLINK_REPLACED, 73) && is(exchanges(&one, 9, 0, 90), BLINK_ABSENT, 0));
     CHECK(is(removes(&one, 4, 41), BLINK_EXISTS, 40) && is(removes(&one, 9, 90), BLINK_ABSENT, 0));
     CHECK(is(puts_so(&one, 8, 80), BLINK_INSERTED, 0) && is(removes(&one, 8, 80), BLINK_REMOVED, 80));
-    CHECK(is(changes(&other, BLINK_FIND, 7, NONE), BLINK_FOUND, 72) && is(changes(&other, BLINK_FIND, 2, NONE), BLINK_ABSENT, 0));
-    CHECK(is(changes(&other, BLINK_DELETE, 6, NONE), BLINK_REMOVED, 62));
+    CHECK(is(changes(&other, BLINK_GET, 7, NONE), BLINK_FOUND, 72) && is(changes(&other, BLINK_GET, 2, NONE), BLINK_ABSENT, 0));
+    CHECK(is(changes(&other, BLINK_REMOVE, 6, NONE), BLINK_REMOVED, 62));
     // a snapshot that is refused memory, and a scan into no place, leave the session at rest: the map closes
     blink_entry range[2];
     blink_taken taken = {9, 9};
     blink_scanned scanned = {9, 9, 9};
     refused_at = 0;
-    CHECK(blink_session_snapshot(&one, 0, 9, 1, range, 2, &taken) == BLINK_NO_MEMORY && taken.taken == 9);
+    CHECK(blink_session_snapshot_try(&one, 0, 9, 1, range, 2, &taken) == BLINK_NO_MEMORY && taken.taken == 9);
     refused_at = -1;
-    CHECK(blink_session_scan(&other, 0, 9, 1, range, 0, &scanned) == BLINK_DONE && scanned.filled == 0);
+    CHECK(blink_session_scan_try(&other, 0, 9, 1, range, 0, &scanned) == BLINK_DONE && scanned.filled == 0);
     blink_session_free(one), blink_session_free(other);
     CHECK(blink_map_close(&map, &closed) == BLINK_DONE);
     // a closed map has no session, no second handle, no room, no renewal and no second index
@@ -364,12 +386,12 @@ static void changes_a_map(void) {
     one.at = NULL;
     CHECK(blink_map_close(&map, &again) == BLINK_MAP_CLOSED && again.at == NULL);
     CHECK(blink_map_join(&map, &one) == BLINK_NO_SESSION && blink_map_share(&map, &second) == BLINK_MAP_CLOSED && second.at == NULL);
-    CHECK(blink_map_room(&map, 1, &rows, &pages) == BLINK_MAP_CLOSED && rows == 9 && pages == 9);
+    CHECK(blink_map_room(&map, 1, &pages, &rows) == BLINK_MAP_CLOSED && rows == 9 && pages == 9);
     CHECK(blink_map_renew(&map, 1) == BLINK_MAP_CLOSED);
     blink_map_free(map);
     CHECK(blink_index_len(&closed) == 5 && blink_index_fan(&closed) == 4 && blink_index_len(&index) == 5);
-    CHECK(blink_index_find(&closed, 3, &pointer) && pointer == 33 && blink_index_find(&closed, 7, &pointer) && pointer == 72);
-    CHECK(blink_index_find(&closed, 5, &pointer) && pointer == 50 && !blink_index_find(&closed, 2, &pointer));
+    CHECK(blink_index_get(&closed, 3, &pointer) && pointer == 33 && blink_index_get(&closed, 7, &pointer) && pointer == 72);
+    CHECK(blink_index_get(&closed, 5, &pointer) && pointer == 50 && !blink_index_get(&closed, 2, &pointer));
     blink_index_free(closed);
     blink_index_free(index);
 }
@@ -403,14 +425,14 @@ static void changes_end_at_once(void) {
     for (uint64_t turn = 0; turn < 200000; turn++) {
         blink_answer put = {9, 9}, again = {9, 9}, other = {9, 9}, gone = {9, 9}, back = {9, 9};
         blink_answer same = {9, 9}, new = {9, 9}, over = {9, 9};
-        done += blink_session_replace(&one, 3, turn, 1, &put) == BLINK_DONE && put.kind == BLINK_REPLACED;
-        done += blink_session_exchange(&one, 3, turn, 30, 1, &again) == BLINK_DONE && is(again, BLINK_REPLACED, turn);
-        done += blink_session_delete(&one, 5, 1, &gone) == BLINK_DONE && is(gone, BLINK_REMOVED, 50);
-        done += blink_session_insert(&one, 5, 50, 1, &back) == BLINK_DONE && is(back, BLINK_INSERTED, 0);
-        done += blink_session_delete_exact(&one, 5, 50, 1, &same) == BLINK_DONE && is(same, BLINK_REMOVED, 50);
-        done += blink_session_put(&one, 5, turn, 1, &new) == BLINK_DONE && is(new, BLINK_INSERTED, 0);
-        done += blink_session_put(&one, 5, 50, 1, &over) == BLINK_DONE && is(over, BLINK_REPLACED, turn);
-        done += blink_session_delete_exact(&one, 5, turn + 51, 1, &other) == BLINK_DONE && is(other, BLINK_EXISTS, 50);
+        done += blink_session_replace_try(&one, 3, turn, 1, &put) == BLINK_DONE && put.kind == BLINK_REPLACED;
+        done += blink_session_compare_exchange_try(&one, 3, turn, 30, 1, &again) == BLINK_DONE && is(again, BLINK_REPLACED, turn);
+        done += blink_session_remove_try(&one, 5, 1, &gone) == BLINK_DONE && is(gone, BLINK_REMOVED, 50);
+        done += blink_session_insert_try(&one, 5, 50, 1, &back) == BLINK_DONE && is(back, BLINK_INSERTED, 0);
+        done += blink_session_compare_remove_try(&one, 5, 50, 1, &same) == BLINK_DONE && is(same, BLINK_REMOVED, 50);
+        done += blink_session_put_try(&one, 5, turn, 1, &new) == BLINK_DONE && is(new, BLINK_INSERTED, 0);
+        done += blink_session_put_try(&one, 5, 50, 1, &over) == BLINK_DONE && is(over, BLINK_REPLACED, turn);
+        done += blink_session_compare_remove_try(&one, 5, turn + 51, 1, &other) == BLINK_DONE && is(other, BLINK_EXISTS, 50);
     }
     CHECK(done == 1600000);
     blink_session_free(one);
@@ -438,42 +460,46 @@ static void refuses_at_a_map(void) {
     CHECK(blink_session_advance(&one, 1, &answer) == BLINK_IDLE && answer.kind == 9);
     // the first session draws 44 rows and all 22 numbers, so there are 2 rows for the second, and no number
     CHECK(is(changes(&one, BLINK_INSERT, 6, 60), BLINK_INSERTED, 0));
-    CHECK(blink_session_insert(&two, 7, 70, 100, &answer) == BLINK_FULL && blink_session_put(&two, 7, 70, 100, &answer) == BLINK_FULL);
-    CHECK(answer.kind == 9 && is(changes(&two, BLINK_FIND, 3, NONE), BLINK_FOUND, 30));
+    CHECK(blink_session_insert_try(&two, 7, 70, 100, &answer) == BLINK_FULL && blink_session_put_try(&two, 7, 70, 100, &answer) == BLINK_FULL);
+    CHECK(answer.kind == 9 && is(changes(&two, BLINK_GET, 3, NONE), BLINK_FOUND, 30));
     // a key that is there needs no room for an insertion
     CHECK(is(changes(&two, BLINK_INSERT, 3, 33), BLINK_EXISTS, 30) && is(puts_so(&two, 3, 33), BLINK_REPLACED, 30));
-    CHECK(is(changes(&two, BLINK_REPLACE, 3, 31), BLINK_REPLACED, 33) && is(changes(&two, BLINK_DELETE, 1, NONE), BLINK_REMOVED, 10));
+    CHECK(is(changes(&two, BLINK_REPLACE, 3, 31), BLINK_REPLACED, 33) && is(changes(&two, BLINK_REMOVE, 1, NONE), BLINK_REMOVED, 10));
     // a row that is written over comes back
     for (uint64_t pointer = 21; pointer < 1000; pointer++)
         CHECK(is(changes(&two, BLINK_REPLACE, 2, pointer), BLINK_REPLACED, pointer == 21 ? 20 : pointer - 1));
-    CHECK(blink_session_delete(&foreign, 2, 100, &answer) == BLINK_FULL && blink_session_replace(&foreign, 2, 21, 100, &answer) == BLINK_FULL);
-    CHECK(blink_session_exchange(&foreign, 2, 20, 21, 100, &answer) == BLINK_FULL);
-    CHECK(blink_session_delete_exact(&foreign, 2, 20, 100, &answer) == BLINK_FULL);
-    CHECK(blink_session_delete_wait(&foreign, 2, &answer) == BLINK_FULL && blink_session_put_wait(&foreign, 2, 21, &answer) == BLINK_FULL);
+    CHECK(blink_session_remove_try(&foreign, 2, 100, &answer) == BLINK_FULL && blink_session_replace_try(&foreign, 2, 21, 100, &answer) == BLINK_FULL);
+    CHECK(blink_session_compare_exchange_try(&foreign, 2, 20, 21, 100, &answer) == BLINK_FULL);
+    CHECK(blink_session_compare_remove_try(&foreign, 2, 20, 100, &answer) == BLINK_FULL);
+    CHECK(blink_session_remove(&foreign, 2, &answer) == BLINK_FULL && blink_session_put(&foreign, 2, 21, &answer) == BLINK_FULL);
+    blink_entry it = {9, 9};
+    bool found = true;
+    CHECK(blink_session_pop_first(&foreign, &it, &found) == BLINK_FULL && blink_session_pop_last(&foreign, &it, &found) == BLINK_FULL);
+    CHECK(it.key == 9 && it.pointer == 9 && found);
     CHECK(answer.kind == 9 && blink_map_renew(&other, 1) == BLINK_FULL);
     // the place of a session that is freed can be taken again, with what it has drawn
     blink_session_free(two);
     two = session_of(&map);
-    CHECK(is(changes(&two, BLINK_DELETE, 2, NONE), BLINK_REMOVED, 999));
+    CHECK(is(changes(&two, BLINK_REMOVE, 2, NONE), BLINK_REMOVED, 999));
     blink_session_free(two);
     // another handle of a map that isn't freed: the close is refused, and both handles stay
     blink_map again = {NULL};
     CHECK(blink_map_share(&map, &again) == BLINK_DONE);
     CHECK(blink_map_close(&map, &closed) == BLINK_SESSION_MISSING && closed.at == NULL);
     two = session_of(&again);
-    CHECK(is(changes(&two, BLINK_FIND, 6, NONE), BLINK_FOUND, 60));
+    CHECK(is(changes(&two, BLINK_GET, 6, NONE), BLINK_FOUND, 60));
     blink_session_free(two);
     blink_map_free(again);
     // a session that isn't freed: the close is refused, and succeeds once it is
     CHECK(blink_map_close(&map, &closed) == BLINK_SESSION_MISSING && closed.at == NULL);
-    CHECK(is(changes(&one, BLINK_FIND, 6, NONE), BLINK_FOUND, 60));
+    CHECK(is(changes(&one, BLINK_GET, 6, NONE), BLINK_FOUND, 60));
     blink_session_free(one);
     uint64_t pointer;
     closed = closed_with(map, 4);
-    CHECK(blink_index_find(&closed, 6, &pointer) && pointer == 60);
+    CHECK(blink_index_get(&closed, 6, &pointer) && pointer == 60);
     blink_index_free(closed);
     blink_map_free(other);
-    CHECK(is(changes(&foreign, BLINK_FIND, 2, NONE), BLINK_FOUND, 20));
+    CHECK(is(changes(&foreign, BLINK_GET, 2, NONE), BLINK_FOUND, 20));
     blink_session_free(foreign);
     blink_index_free(index);
 }
@@ -486,29 +512,118 @@ static void holds_a_session(void) {
     uint64_t rows = 9, pages = 9;
     CHECK(blink_map_open(&index, &map) == BLINK_DONE);
     blink_session one = session_of(&map), other = session_of(&map);
-    CHECK(blink_map_renew(&map, 1) == BLINK_DONE && blink_session_hold(&one, 1) == BLINK_DONE && blink_session_hold(&one, 1) == BLINK_DONE);
-    CHECK(blink_map_renew(&map, 1) == BLINK_RENEWING && is(changes(&one, BLINK_FIND, 3, NONE), BLINK_FOUND, 30));
+    CHECK(blink_map_renew(&map, 1) == BLINK_DONE && blink_session_hold_try(&one, 1) == BLINK_DONE && blink_session_hold_try(&one, 1) == BLINK_DONE);
+    CHECK(blink_map_renew(&map, 1) == BLINK_RENEWING && is(changes(&one, BLINK_GET, 3, NONE), BLINK_FOUND, 30));
     CHECK(is(puts_so(&one, 6, 60), BLINK_INSERTED, 0) && is(puts_so(&other, 7, 70), BLINK_INSERTED, 0));
-    CHECK(blink_map_renew(&map, 1) == BLINK_RENEWING && blink_map_room(&map, 1, &rows, &pages) == BLINK_DONE && rows > 0 && pages > 0);
+    CHECK(blink_map_renew(&map, 1) == BLINK_RENEWING && blink_map_room(&map, 1, &pages, &rows) == BLINK_DONE && rows > 0 && pages > 0);
     blink_session_let_go(&one);
-    CHECK(blink_map_renew(&map, 1) == BLINK_DONE && blink_session_hold_wait(&other) == BLINK_DONE);
+    CHECK(blink_map_renew(&map, 1) == BLINK_DONE && blink_session_hold(&other) == BLINK_DONE);
     CHECK(blink_map_renew(&map, 1) == BLINK_RENEWING && blink_map_close(&map, &closed) == BLINK_SESSION_MISSING);
     blink_session_let_go(&other), blink_session_let_go(&other);
-    CHECK(blink_map_renew(&map, 1) == BLINK_DONE && is(changes(&one, BLINK_FIND, 7, NONE), BLINK_FOUND, 70));
+    CHECK(blink_map_renew(&map, 1) == BLINK_DONE && is(changes(&one, BLINK_GET, 7, NONE), BLINK_FOUND, 70));
     // a session that is held may be freed
-    CHECK(blink_session_hold(&one, 1) == BLINK_DONE);
+    CHECK(blink_session_hold_try(&one, 1) == BLINK_DONE);
     blink_session_free(one), blink_session_free(other);
     blink_index_free(closed_with(map, 7));
     // the room is looked up by a session that nobody holds
     map = map_with_room(&index, 300, 600, 1, true);
     one = session_of(&map);
     rows = pages = 9;
-    CHECK(blink_session_hold(&one, 1) == BLINK_DONE && blink_map_room(&map, 1, &rows, &pages) == BLINK_RENEWING && rows == 9 && pages == 9);
+    CHECK(blink_session_hold_try(&one, 1) == BLINK_DONE && blink_map_room(&map, 1, &pages, &rows) == BLINK_RENEWING && rows == 9 && pages == 9);
     blink_session_let_go(&one);
-    CHECK(has_left(&map, 600, 300));
+    CHECK(has_left(&map, 300, 600));
     blink_session_free(one);
     blink_index_free(closed_with(map, 5));
     blink_index_free(index);
+}
+
+// The entries at the ends of a map and on each side of a key, how many there are, and what is taken from each end. A call that finds none
+// leaves the entry as it was.
+static void finds_what_is_near(void) {
+    enum { MANY = 200 };
+    blink_index index = index_of(4, five, 6);
+    blink_map map = {NULL};
+    blink_entry it = {9, 9};
+    bool found = false;
+    size_t count = 77;
+    CHECK(blink_map_open(&index, &map) == BLINK_DONE);
+    blink_session one = session_of(&map);
+    CHECK(blink_session_first(&one, &it, &found) == BLINK_DONE && found && it.key == 1 && it.pointer == 10);
+    CHECK(blink_session_last(&one, &it, &found) == BLINK_DONE && found && it.key == 5 && it.pointer == 50);
+    CHECK(blink_session_next(&one, 2, &it, &found) == BLINK_DONE && found && it.key == 3 && it.pointer == 30);
+    CHECK(blink_session_prev(&one, 2, &it, &found) == BLINK_DONE && found && it.key == 1 && it.pointer == 10);
+    CHECK(blink_session_at_least(&one, 2, &it, &found) == BLINK_DONE && found && it.key == 2 && it.pointer == 20);
+    CHECK(blink_session_at_most(&one, 9, &it, &found) == BLINK_DONE && found && it.key == 5 && it.pointer == 50);
+    CHECK(blink_session_next(&one, 5, &it, &found) == BLINK_DONE && !found && it.key == 5);
+    found = true;
+    CHECK(blink_session_prev(&one, 1, &it, &found) == BLINK_DONE && !found && it.key == 5);
+    found = true;
+    CHECK(blink_session_at_least(&one, 6, &it, &found) == BLINK_DONE && !found && it.key == 5);
+    found = true;
+    CHECK(blink_session_at_most(&one, 0, &it, &found) == BLINK_DONE && !found && it.key == 5);
+    // no key is above the greatest or below the least
+    CHECK(is(changes(&one, BLINK_INSERT, UINT64_MAX, 7), BLINK_INSERTED, 0) && is(changes(&one, BLINK_INSERT, 0, 8), BLINK_INSERTED, 0));
+    found = true;
+    CHECK(blink_session_next(&one, UINT64_MAX, &it, &found) == BLINK_DONE && !found && it.key == 5);
+    found = true;
+    CHECK(blink_session_prev(&one, 0, &it, &found) == BLINK_DONE && !found && it.key == 5);
+    CHECK(blink_session_next(&one, UINT64_MAX - 1, &it, &found) == BLINK_DONE && found && it.key == UINT64_MAX && it.pointer == 7);
+    CHECK(blink_session_prev(&one, 1, &it, &found) == BLINK_DONE && found && it.key == 0 && it.pointer == 8);
+    CHECK(blink_session_at_least(&one, UINT64_MAX, &it, &found) == BLINK_DONE && found && it.pointer == 7);
+    CHECK(blink_session_at_most(&one, 0, &it, &found) == BLINK_DONE && found && it.pointer == 8);
+    CHECK(blink_session_count(&one, 0, UINT64_MAX, &count) == BLINK_DONE && count == 7);
+    CHECK(blink_session_count(&one, 2, 4, &count) == BLINK_DONE && count == 3);
+    CHECK(blink_session_count(&one, 4, 2, &count) == BLINK_DONE && count == 0);
+    CHECK(blink_session_pop_first(&one, &it, &found) == BLINK_DONE && found && it.key == 0 && it.pointer == 8);
+    CHECK(blink_session_pop_last(&one, &it, &found) == BLINK_DONE && found && it.key == UINT64_MAX && it.pointer == 7);
+    for (uint64_t key = 1; key < 6; key++) CHECK(blink_session_pop_first(&one, &it, &found) == BLINK_DONE && found && it.key == key);
+    CHECK(blink_session_pop_first(&one, &it, &found) == BLINK_DONE && !found && it.key == 5);
+    found = true;
+    CHECK(blink_session_pop_last(&one, &it, &found) == BLINK_DONE && !found && it.key == 5);
+    CHECK(blink_session_first(&one, &it, &found) == BLINK_DONE && !found && blink_session_last(&one, &it, &found) == BLINK_DONE && !found);
+    CHECK(blink_session_count(&one, 0, UINT64_MAX, &count) == BLINK_DONE && count == 0);
+    // a count reads 64 entries at a time
+    for (uint64_t key = 0; key < MANY; key++) {
+        CHECK(is(changes(&one, BLINK_INSERT, 3 * key, key), BLINK_INSERTED, 0));
+        CHECK(blink_session_count(&one, 0, UINT64_MAX, &count) == BLINK_DONE && count == key + 1);
+    }
+    CHECK(blink_session_count(&one, 1, 3 * MANY - 4, &count) == BLINK_DONE && count == MANY - 2);
+    blink_session_free(one);
+    blink_index_free(closed_with(map, MANY));
+    blink_index_free(index);
+}
+
+enum { POPPING = 4, POPPED = 8000 };
+static unsigned char popped[POPPED];
+
+// Takes entries from both ends by turns, until there is none.
+static void *pops_by_turns(void *at) {
+    blink_session *session = at;
+    blink_entry it;
+    bool found = true;
+    for (int turn = 0; found; turn++) {
+        CHECK((turn % 2 ? blink_session_pop_first(session, &it, &found) : blink_session_pop_last(session, &it, &found)) == BLINK_DONE);
+        if (found) CHECK(it.pointer == it.key + 1 && __atomic_add_fetch(&popped[it.key], 1, __ATOMIC_RELAXED) == 1);
+    }
+    return NULL;
+}
+
+// Threads that pop at once: each entry is one thread's.
+static void pops_by_threads(void) {
+    static blink_entry entries[POPPED];
+    for (uint64_t key = 0; key < POPPED; key++) entries[key] = (blink_entry){key, key + 1};
+    blink_index index = index_of(32, entries, POPPED);
+    blink_map map = {NULL};
+    blink_session sessions[POPPING];
+    pthread_t threads[POPPING];
+    CHECK(blink_map_open(&index, &map) == BLINK_DONE);
+    blink_index_free(index);
+    for (int i = 0; i < POPPING; i++) sessions[i] = session_of(&map);
+    for (int i = 0; i < POPPING; i++) CHECK(pthread_create(&threads[i], NULL, pops_by_turns, &sessions[i]) == 0);
+    for (int i = 0; i < POPPING; i++) CHECK(pthread_join(threads[i], NULL) == 0);
+    for (int i = 0; i < POPPING; i++) blink_session_free(sessions[i]);
+    for (int key = 0; key < POPPED; key++) CHECK(popped[key] == 1);
+    blink_index_free(closed_with(map, 0));
 }
 
 // A map has places for 256 sessions, and each of them can insert.
@@ -557,9 +672,9 @@ static void leaves_a_put_under_way(blink_session *one, blink_session *other, uin
     int code = BLINK_DONE;
     CHECK(pthread_create(&thread, NULL, replaces_five, &it) == 0);
     for (long tries = 0; tries < 20000000 && code != BLINK_PENDING; tries++) {
-        code = blink_session_put(one, key, pointer, 1, &answer);
+        code = blink_session_put_try(one, key, pointer, 1, &answer);
         CHECK(code == BLINK_DONE || code == BLINK_PENDING || code == BLINK_ROWS_BUSY || code == refusal);
-        if (code == BLINK_DONE) CHECK(is(answer, BLINK_INSERTED, 0) && is(changes(one, BLINK_DELETE, key, NONE), BLINK_REMOVED, pointer));
+        if (code == BLINK_DONE) CHECK(is(answer, BLINK_INSERTED, 0) && is(changes(one, BLINK_REMOVE, key, NONE), BLINK_REMOVED, pointer));
     }
     pthread_mutex_lock(&it.lock);
     it.stops = true;
@@ -576,56 +691,65 @@ static void refuses_under_way(bool fixed) {
     blink_entry range[2] = {{9, 9}, {9, 9}};
     blink_scanned scanned = {9, 9, 9};
     int unrenewed = fixed ? BLINK_FULL : BLINK_RENEWING;
-    CHECK(blink_session_scan_back(&one, 0, 4, 1, range, 2, &scanned) == BLINK_DONE && scanned.filled == 2 && scanned.more == 1 && scanned.next == 2);
+    CHECK(blink_session_scan_back_try(&one, 0, 4, 1, range, 2, &scanned) == BLINK_DONE && scanned.filled == 2 && scanned.more == 1 && scanned.next == 2);
     CHECK(range[0].key == 4 && range[0].pointer == 40 && range[1].key == 3 && range[1].pointer == 30);
-    CHECK(blink_session_scan(&one, 4, 9, 1, range, 2, &scanned) == BLINK_DONE && scanned.filled == 2 && scanned.more == 0);
+    CHECK(blink_session_scan_try(&one, 4, 9, 1, range, 2, &scanned) == BLINK_DONE && scanned.filled == 2 && scanned.more == 0);
     CHECK(range[0].key == 4 && range[0].pointer == 40 && range[1].key == 5 && range[1].pointer == 50);
     blink_taken snapshot = {9, 9};
-    CHECK(blink_session_snapshot(&one, 5, 9, 1, range, 2, &snapshot) == BLINK_DONE && snapshot.taken == 1 && snapshot.there == 1);
+    CHECK(blink_session_snapshot_try(&one, 5, 9, 1, range, 2, &snapshot) == BLINK_DONE && snapshot.taken == 1 && snapshot.there == 1);
     CHECK(range[0].key == 5 && range[0].pointer == 50 && range[1].key == 5);
-    CHECK(blink_session_scan(&one, 4, 9, 1, range, 2, &scanned) == BLINK_DONE && scanned.filled == 2);
+    CHECK(blink_session_scan_try(&one, 4, 9, 1, range, 2, &scanned) == BLINK_DONE && scanned.filled == 2);
     leaves_a_put_under_way(&one, &other, 9, 99, unrenewed);
+    CHECK(blink_session_snapshot_try(&one, 0, 9, 1, range, 2, &snapshot) == BLINK_PENDING && snapshot.there == 1);
     CHECK(blink_session_snapshot(&one, 0, 9, 1, range, 2, &snapshot) == BLINK_PENDING && snapshot.there == 1);
-    CHECK(blink_session_snapshot_wait(&one, 0, 9, 1, range, 2, &snapshot) == BLINK_PENDING && snapshot.there == 1);
-    CHECK(blink_session_scan(&one, 0, 9, 1, range, 2, &scanned) == BLINK_PENDING && range[0].key == 4 && scanned.filled == 2);
-    CHECK(blink_session_scan_wait(&one, 0, 9, range, 2, &scanned) == BLINK_PENDING && range[0].key == 4 && scanned.filled == 2);
-    CHECK(blink_session_scan_back(&one, 0, 9, 1, range, 2, &scanned) == BLINK_PENDING && range[0].key == 4 && scanned.filled == 2);
-    CHECK(blink_session_scan_back_wait(&one, 0, 9, range, 2, &scanned) == BLINK_PENDING && range[0].key == 4 && scanned.filled == 2);
-    CHECK(blink_session_find(&one, 3, 1, &answer) == BLINK_PENDING && blink_session_find_wait(&one, 3, &answer) == BLINK_PENDING);
-    CHECK(blink_session_insert(&one, 9, 90, 100, &answer) == BLINK_PENDING && blink_session_put(&one, 9, 90, 100, &answer) == BLINK_PENDING);
-    CHECK(blink_session_delete(&one, 3, 100, &answer) == BLINK_PENDING && blink_session_replace(&one, 3, 34, 100, &answer) == BLINK_PENDING);
-    CHECK(blink_session_exchange(&one, 3, 30, 34, 100, &answer) == BLINK_PENDING);
-    CHECK(blink_session_delete_exact(&one, 3, 30, 100, &answer) == BLINK_PENDING);
-    CHECK(blink_session_insert_wait(&one, 9, 90, &answer) == BLINK_PENDING && blink_session_put_wait(&one, 9, 90, &answer) == BLINK_PENDING);
-    CHECK(blink_session_delete_wait(&one, 3, &answer) == BLINK_PENDING && blink_session_replace_wait(&one, 3, 34, &answer) == BLINK_PENDING);
-    CHECK(blink_session_exchange_wait(&one, 3, 30, 34, &answer) == BLINK_PENDING);
-    CHECK(blink_session_delete_exact_wait(&one, 3, 30, &answer) == BLINK_PENDING);
+    CHECK(blink_session_scan_try(&one, 0, 9, 1, range, 2, &scanned) == BLINK_PENDING && range[0].key == 4 && scanned.filled == 2);
+    CHECK(blink_session_scan(&one, 0, 9, range, 2, &scanned) == BLINK_PENDING && range[0].key == 4 && scanned.filled == 2);
+    CHECK(blink_session_scan_back_try(&one, 0, 9, 1, range, 2, &scanned) == BLINK_PENDING && range[0].key == 4 && scanned.filled == 2);
+    CHECK(blink_session_scan_back(&one, 0, 9, range, 2, &scanned) == BLINK_PENDING && range[0].key == 4 && scanned.filled == 2);
+    CHECK(blink_session_get_try(&one, 3, 1, &answer) == BLINK_PENDING && blink_session_get(&one, 3, &answer) == BLINK_PENDING);
+    CHECK(blink_session_insert_try(&one, 9, 90, 100, &answer) == BLINK_PENDING && blink_session_put_try(&one, 9, 90, 100, &answer) == BLINK_PENDING);
+    CHECK(blink_session_remove_try(&one, 3, 100, &answer) == BLINK_PENDING && blink_session_replace_try(&one, 3, 34, 100, &answer) == BLINK_PENDING);
+    CHECK(blink_session_compare_exchange_try(&one, 3, 30, 34, 100, &answer) == BLINK_PENDING);
+    CHECK(blink_session_compare_remove_try(&one, 3, 30, 100, &answer) == BLINK_PENDING);
+    CHECK(blink_session_insert(&one, 9, 90, &answer) == BLINK_PENDING && blink_session_put(&one, 9, 90, &answer) == BLINK_PENDING);
+    CHECK(blink_session_remove(&one, 3, &answer) == BLINK_PENDING && blink_session_replace(&one, 3, 34, &answer) == BLINK_PENDING);
+    CHECK(blink_session_compare_exchange(&one, 3, 30, 34, &answer) == BLINK_PENDING);
+    CHECK(blink_session_compare_remove(&one, 3, 30, &answer) == BLINK_PENDING);
     blink_reserve stock = {9, 9, 9, 9, 9};
-    CHECK(blink_session_reserve(&one, 1, &stock) == BLINK_PENDING && blink_session_reserve_wait(&one, &stock) == BLINK_PENDING);
+    CHECK(blink_session_reserve_try(&one, 1, &stock) == BLINK_PENDING && blink_session_reserve(&one, &stock) == BLINK_PENDING);
     CHECK(stock.pages == 9 && stock.waiting == 9);
-    CHECK(blink_session_hold(&one, 1) == BLINK_PENDING && blink_session_hold_wait(&one) == BLINK_PENDING);
+    CHECK(blink_session_hold_try(&one, 1) == BLINK_PENDING && blink_session_hold(&one) == BLINK_PENDING);
+    blink_entry it = {9, 9};
+    bool found = true;
+    size_t count = 77;
+    CHECK(blink_session_first(&one, &it, &found) == BLINK_PENDING && blink_session_last(&one, &it, &found) == BLINK_PENDING);
+    CHECK(blink_session_next(&one, 3, &it, &found) == BLINK_PENDING && blink_session_prev(&one, 3, &it, &found) == BLINK_PENDING);
+    CHECK(blink_session_next(&one, UINT64_MAX, &it, &found) == BLINK_PENDING && blink_session_prev(&one, 0, &it, &found) == BLINK_PENDING);
+    CHECK(blink_session_at_least(&one, 3, &it, &found) == BLINK_PENDING && blink_session_at_most(&one, 3, &it, &found) == BLINK_PENDING);
+    CHECK(blink_session_pop_first(&one, &it, &found) == BLINK_PENDING && blink_session_pop_last(&one, &it, &found) == BLINK_PENDING);
+    CHECK(blink_session_count(&one, 0, 9, &count) == BLINK_PENDING && count == 77 && it.key == 9 && it.pointer == 9 && found);
     CHECK(blink_map_renew(&map, 1) == unrenewed && blink_map_close(&map, &closed) == BLINK_SESSION_MISSING && closed.at == NULL);
-    CHECK(answer.kind == 9 && is(changes(&other, BLINK_FIND, 3, NONE), BLINK_FOUND, 30));
+    CHECK(answer.kind == 9 && is(changes(&other, BLINK_GET, 3, NONE), BLINK_FOUND, 30));
     CHECK(blink_session_advance(&one, 1, &answer) == BLINK_DONE && is(answer, BLINK_INSERTED, 0));
-    CHECK(blink_session_advance(&one, 1, &answer) == BLINK_IDLE && is(changes(&one, BLINK_FIND, 9, NONE), BLINK_FOUND, 99));
+    CHECK(blink_session_advance(&one, 1, &answer) == BLINK_IDLE && is(changes(&one, BLINK_GET, 9, NONE), BLINK_FOUND, 99));
     CHECK(blink_map_renew(&map, 1) == (fixed ? BLINK_FULL : BLINK_DONE));
-    // where another session inserts the key meanwhile, the put replaces it; where it deletes it again, the put inserts
+    // where another session inserts the key meanwhile, the put replaces it; where it removes it again, the put inserts
     leaves_a_put_under_way(&one, &other, 8, 80, unrenewed);
     CHECK(is(changes(&other, BLINK_INSERT, 8, 85), BLINK_INSERTED, 0));
-    CHECK(blink_session_finish(&one, &answer) == BLINK_DONE && is(answer, BLINK_REPLACED, 85));
-    CHECK(is(changes(&other, BLINK_DELETE, 8, NONE), BLINK_REMOVED, 80));
+    CHECK(finishes(&one, &answer) == BLINK_DONE && is(answer, BLINK_REPLACED, 85));
+    CHECK(is(changes(&other, BLINK_REMOVE, 8, NONE), BLINK_REMOVED, 80));
     leaves_a_put_under_way(&one, &other, 8, 81, unrenewed);
-    CHECK(is(changes(&other, BLINK_INSERT, 8, 85), BLINK_INSERTED, 0) && is(changes(&other, BLINK_DELETE, 8, NONE), BLINK_REMOVED, 85));
-    CHECK(blink_session_finish(&one, &answer) == BLINK_DONE && is(answer, BLINK_INSERTED, 0));
-    CHECK(is(changes(&other, BLINK_FIND, 8, NONE), BLINK_FOUND, 81));
-    CHECK(blink_session_finish(&one, &answer) == BLINK_IDLE);
+    CHECK(is(changes(&other, BLINK_INSERT, 8, 85), BLINK_INSERTED, 0) && is(changes(&other, BLINK_REMOVE, 8, NONE), BLINK_REMOVED, 85));
+    CHECK(finishes(&one, &answer) == BLINK_DONE && is(answer, BLINK_INSERTED, 0));
+    CHECK(is(changes(&other, BLINK_GET, 8, NONE), BLINK_FOUND, 81));
+    CHECK(finishes(&one, &answer) == BLINK_IDLE);
     // a session that is freed under way: the put is made, whichever half of it is under way, and its place can be taken again
     for (uint64_t turn = 0; turn < 20; turn++) {
         leaves_a_put_under_way(&one, &other, 7, 70 + turn, unrenewed);
         blink_session_free(one);
         one = session_of(&map);
-        CHECK(is(changes(&one, BLINK_FIND, 7, NONE), BLINK_FOUND, 70 + turn));
-        CHECK(is(changes(&other, BLINK_DELETE, 7, NONE), BLINK_REMOVED, 70 + turn));
+        CHECK(is(changes(&one, BLINK_GET, 7, NONE), BLINK_FOUND, 70 + turn));
+        CHECK(is(changes(&other, BLINK_REMOVE, 7, NONE), BLINK_REMOVED, 70 + turn));
     }
     // the same where another session has inserted the key meanwhile, so that the put's insertion gives way to a replacement
     leaves_a_put_under_way(&one, &other, 7, 70, unrenewed);
@@ -634,8 +758,8 @@ static void refuses_under_way(bool fixed) {
     blink_map_free(apart);
     uint64_t pointer;
     closed = closed_with(map, 8);
-    CHECK(blink_index_find(&closed, 7, &pointer) && pointer == 70);
-    CHECK(blink_index_find(&closed, 8, &pointer) && pointer == 81);
+    CHECK(blink_index_get(&closed, 7, &pointer) && pointer == 70);
+    CHECK(blink_index_get(&closed, 8, &pointer) && pointer == 81);
     blink_index_free(closed);
     blink_index_free(index);
 }
@@ -650,15 +774,15 @@ static void refuses_the_other_half(void) {
     // the first session draws 44 rows and all 22 numbers, so there are 2 rows for the second, and no number
     CHECK(is(changes(&one, BLINK_INSERT, 6, 60), BLINK_INSERTED, 0));
     leaves_a_put_under_way(&two, &one, 9, 90, BLINK_FULL);
-    CHECK(blink_session_finish(&two, &answer) == BLINK_FULL && answer.kind == 9);
-    CHECK(blink_session_advance(&two, 1, &answer) == BLINK_IDLE && is(changes(&two, BLINK_FIND, 9, NONE), BLINK_ABSENT, 0));
+    CHECK(finishes(&two, &answer) == BLINK_FULL && answer.kind == 9);
+    CHECK(blink_session_advance(&two, 1, &answer) == BLINK_IDLE && is(changes(&two, BLINK_GET, 9, NONE), BLINK_ABSENT, 0));
     leaves_a_put_under_way(&two, &one, 9, 90, BLINK_FULL);
     blink_session_free(two);
     CHECK(is(changes(&one, BLINK_INSERT, 5, 51), BLINK_EXISTS, 50));
     blink_session_free(one);
     uint64_t pointer;
     closed = closed_with(map, 6);
-    CHECK(!blink_index_find(&closed, 9, &pointer));
+    CHECK(!blink_index_get(&closed, 9, &pointer));
     blink_index_free(closed);
     blink_index_free(index);
 }
@@ -672,7 +796,7 @@ static void outlives_its_map(void) {
     for (int turn = 0; turn < 100; turn++) {
         map = map_with_room(&index, 0, 0, 2, turn % 2);
         blink_session other = session_of(&map);
-        CHECK(is(changes(&session, BLINK_FIND, 3, NONE), BLINK_FOUND, 30) && is(changes(&other, BLINK_FIND, 3, NONE), BLINK_FOUND, 30));
+        CHECK(is(changes(&session, BLINK_GET, 3, NONE), BLINK_FOUND, 30) && is(changes(&other, BLINK_GET, 3, NONE), BLINK_FOUND, 30));
         blink_session_free(other), blink_map_free(map);
     }
     blink_session_free(session);
@@ -732,7 +856,7 @@ static void shares_a_map(void) {
     blink_map_free(map);
     uint64_t pointer;
     for (uint64_t key = 0; key < SHARED; key++) {
-        CHECK(room.there[key] == (blink_index_find(&closed, key, &pointer) ? 1 : 0));
+        CHECK(room.there[key] == (blink_index_get(&closed, key, &pointer) ? 1 : 0));
         CHECK(room.there[key] == 0 || pointer % (1ull << 32) == key);
     }
     blink_index_free(closed);
@@ -746,7 +870,7 @@ static void *joins_again(void *at) {
         blink_session session = session_of(map);
         blink_map again = {NULL};
         uint64_t rows = 0, pages = 0;
-        int code = blink_map_room(map, BLINK_TRIES, &rows, &pages);
+        int code = blink_map_room(map, BLINK_TRIES, &pages, &rows);
         CHECK((code == BLINK_DONE && rows <= 100000 && pages <= 3000) || (code == BLINK_RENEWING && rows == 0 && pages == 0));
         CHECK(blink_map_share(map, &again) == BLINK_DONE);
         blink_map_free(again);
@@ -773,31 +897,31 @@ static void opens_a_map_with_room(bool fixed) {
     blink_map map = map_with_room(&index, 200, 44, 1, fixed);
     blink_session session = session_of(&map), other = {NULL};
     blink_answer answer = {9, 9};
-    CHECK(has(&session, (blink_reserve){0, 0, 0, 0, 0}) && has_left(&map, 44, 200));
+    CHECK(has(&session, (blink_reserve){0, 0, 0, 0, 0}) && has_left(&map, 200, 44));
     // a fixed map has the places of its room
     CHECK(blink_map_join(&map, &other) == (fixed ? BLINK_NO_SESSION : BLINK_DONE));
     for (uint64_t key = 1; key < 6; key++) CHECK(is(changes(&session, BLINK_INSERT, key, 10 * key), BLINK_INSERTED, 0));
     // it drew 64 page numbers, or 22 at least, and the 44 rows; the split and the new root took two numbers, and wrote three pages and the
     // prime block
-    CHECK(blink_session_reserve_wait(&session, &reserve) == BLINK_DONE && reserve.unwritten == 40);
+    CHECK(blink_session_reserve(&session, &reserve) == BLINK_DONE && reserve.unwritten == 40);
     CHECK(fixed ? reserve.pages == 62 : reserve.pages >= 20 && reserve.pages <= 62);
     if (fixed) {
-        CHECK(blink_session_insert_wait(&session, 6, 60, &answer) == BLINK_FULL && answer.kind == 9);
+        CHECK(blink_session_insert(&session, 6, 60, &answer) == BLINK_FULL && answer.kind == 9);
     } else {
         // while another session is held, the map isn't renewed; while this one is, its change lets it go for that
-        CHECK(blink_session_hold(&other, 1) == BLINK_DONE);
-        CHECK(blink_session_insert(&session, 6, 60, 1, &answer) == BLINK_RENEWING && blink_session_put(&session, 6, 60, 1, &answer) == BLINK_RENEWING);
-        CHECK(answer.kind == 9 && is(changes(&session, BLINK_FIND, 6, NONE), BLINK_ABSENT, 0));
+        CHECK(blink_session_hold_try(&other, 1) == BLINK_DONE);
+        CHECK(blink_session_insert_try(&session, 6, 60, 1, &answer) == BLINK_RENEWING && blink_session_put_try(&session, 6, 60, 1, &answer) == BLINK_RENEWING);
+        CHECK(answer.kind == 9 && is(changes(&session, BLINK_GET, 6, NONE), BLINK_ABSENT, 0));
         blink_session_let_go(&other);
-        CHECK(blink_session_hold(&session, 1) == BLINK_DONE && is(changes(&session, BLINK_INSERT, 6, 60), BLINK_INSERTED, 0));
+        CHECK(blink_session_hold_try(&session, 1) == BLINK_DONE && is(changes(&session, BLINK_INSERT, 6, 60), BLINK_INSERTED, 0));
         blink_session_let_go(&session);
         blink_session_free(other);
     }
-    CHECK(is(changes(&session, BLINK_FIND, 6, NONE), fixed ? BLINK_ABSENT : BLINK_FOUND, fixed ? 0 : 60));
+    CHECK(is(changes(&session, BLINK_GET, 6, NONE), fixed ? BLINK_ABSENT : BLINK_FOUND, fixed ? 0 : 60));
     CHECK(blink_map_renew(&map, 1) == (fixed ? BLINK_FULL : BLINK_DONE));
     CHECK(is(changes(&session, BLINK_INSERT, 5, 51), BLINK_EXISTS, 50) && is(puts_so(&session, 5, 52), BLINK_REPLACED, 50));
-    CHECK(is(changes(&session, BLINK_DELETE, 1, NONE), BLINK_REMOVED, 10));
-    CHECK(is(changes(&session, BLINK_FIND, 5, NONE), BLINK_FOUND, 52) && is(changes(&session, BLINK_FIND, 1, NONE), BLINK_ABSENT, 0));
+    CHECK(is(changes(&session, BLINK_REMOVE, 1, NONE), BLINK_REMOVED, 10));
+    CHECK(is(changes(&session, BLINK_GET, 5, NONE), BLINK_FOUND, 52) && is(changes(&session, BLINK_GET, 1, NONE), BLINK_ABSENT, 0));
     blink_session_free(session);
     blink_index_free(closed_with(map, fixed ? 4 : 5));
     blink_index_free(index);
@@ -809,7 +933,7 @@ static void *grows_from_nothing(void *at) {
     uint64_t first = (uint64_t)(uintptr_t)session.at;
     for (uint64_t key = 0; key < 5000; key++) {
         puts_so(&session, key, first);
-        CHECK(changes(&session, BLINK_FIND, key, NONE).kind == BLINK_FOUND);
+        CHECK(changes(&session, BLINK_GET, key, NONE).kind == BLINK_FOUND);
     }
     blink_session_free(session);
     blink_map_free(*map);
@@ -840,11 +964,11 @@ static void *reads_all(void *at) {
     blink_scanned it = {9, 9, 9};
     blink_answer answers[3];
     for (uint64_t key = 1; key <= 3 * READ; key++) {
-        CHECK(blink_reader_find(reader, key, &pointer) == (key % 3 == 0));
+        CHECK(blink_reader_get(reader, key, &pointer) == (key % 3 == 0));
         CHECK(pointer == 10 * (key - key % 3));
     }
-    CHECK(blink_reader_find_many(reader, keys, 3, answers, 2) == BLINK_WRONG_LENGTH);
-    CHECK(blink_reader_find_many(reader, keys, 3, answers, 3) == BLINK_DONE);
+    CHECK(blink_reader_get_many(reader, keys, 3, answers, 2) == BLINK_WRONG_LENGTH);
+    CHECK(blink_reader_get_many(reader, keys, 3, answers, 3) == BLINK_DONE);
     CHECK(is(answers[0], BLINK_FOUND, 30) && is(answers[1], BLINK_ABSENT, 0) && is(answers[2], BLINK_FOUND, 90000));
     CHECK(blink_reader_first(reader, &entry) && entry.key == 3);
     for (uint64_t key = 6; key <= 3 * READ; key += 3)
@@ -895,7 +1019,7 @@ static void shares_an_index(void) {
     CHECK(blink_index_insert(&index, 4, 40, &answer) == BLINK_DONE && answer.kind == BLINK_INSERTED);
     CHECK(blink_index_share(&index, &reader) == BLINK_DONE && blink_reader_len(&reader) == READ + 1);
     uint64_t pointer = 0;
-    CHECK(blink_reader_find(&reader, 4, &pointer) && pointer == 40);
+    CHECK(blink_reader_get(&reader, 4, &pointer) && pointer == 40);
     blink_reader_free(reader);
 }
 
@@ -924,17 +1048,17 @@ static void needs_memory_for_a_map(bool fixed) {
     UNTIL_MADE(blink_map_share(&map, &other), other.at == NULL);
     blink_map_free(other);
     UNTIL_MADE(blink_map_join(&map, &session), session.at == NULL);
-    UNTIL_MADE(blink_session_snapshot(&session, 0, 9, 1, range, 5, &taken), taken.taken == 9);
+    UNTIL_MADE(blink_session_snapshot_try(&session, 0, 9, 1, range, 5, &taken), taken.taken == 9);
     CHECK(taken.taken == 1 && taken.there == 5 && range[4].pointer == 50);
     // key 8 splits the leaf of keys 4 to 7, which takes one of the 22 page numbers, so there is no room for key 9
     for (uint64_t key = 6; key < 9; key++) CHECK(is(changes(&session, BLINK_INSERT, key, 10 * key), BLINK_INSERTED, 0));
     if (fixed) {
-        CHECK(blink_session_insert(&session, 9, 90, 1, &answer) == BLINK_FULL && blink_map_renew(&map, 1) == BLINK_FULL);
+        CHECK(blink_session_insert_try(&session, 9, 90, 1, &answer) == BLINK_FULL && blink_map_renew(&map, 1) == BLINK_FULL);
     } else {
-        UNTIL_MADE(blink_session_insert(&session, 9, 90, 1, &answer), is(changes(&session, BLINK_FIND, 9, NONE), BLINK_ABSENT, 0));
-        UNTIL_MADE(blink_map_renew(&map, 1), is(changes(&session, BLINK_FIND, 9, NONE), BLINK_FOUND, 90));
+        UNTIL_MADE(blink_session_insert_try(&session, 9, 90, 1, &answer), is(changes(&session, BLINK_GET, 9, NONE), BLINK_ABSENT, 0));
+        UNTIL_MADE(blink_map_renew(&map, 1), is(changes(&session, BLINK_GET, 9, NONE), BLINK_FOUND, 90));
     }
-    CHECK(is(changes(&session, BLINK_FIND, 8, NONE), BLINK_FOUND, 80));
+    CHECK(is(changes(&session, BLINK_GET, 8, NONE), BLINK_FOUND, 80));
     blink_session_free(session);
     UNTIL_MADE(blink_map_close(&map, &closed), closed.at == NULL);
     CHECK(blink_index_len(&closed) == (fixed ? 8 : 9));
@@ -997,6 +1121,8 @@ int main(int argc, char **argv) {
     changes_end_at_once();
     refuses_at_a_map();
     holds_a_session();
+    finds_what_is_near();
+    pops_by_threads();
     takes_each_place();
     refuses_under_way(true);
     refuses_under_way(false);

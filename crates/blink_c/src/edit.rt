@@ -44,13 +44,13 @@ pub extern "C" fn blink_index_insert(
 
 /// Removes a key with its pointer in place, and gives the answer. It compacts the index where that is sparse then.
 #[unsafe(no_mangle)]
-pub extern "C" fn blink_index_delete(
+pub extern "C" fn blink_index_remove(
     alloc: Global,
     index: &mut IndexHandle,
     key: u64,
     answer: &mut RawAnswer,
 )
-    ensures deleted { HasEdited index.old.value (Delete key) answer.new index.new.value }
+    ensures removed { HasEdited index.old.value (Delete key) answer.new index.new.value }
 {
     *answer = RawAnswer::of(index.get().delete_and_compact(alloc, key));
 }
@@ -70,7 +70,7 @@ pub extern "C" fn blink_index_replace(
 
 /// Replaces the pointer of a key in place, if it is the expected one, and gives the answer.
 #[unsafe(no_mangle)]
-pub extern "C" fn blink_index_exchange(
+pub extern "C" fn blink_index_compare_exchange(
     index: &mut IndexHandle,
     key: u64,
     expected: u64,
@@ -86,14 +86,14 @@ pub extern "C" fn blink_index_exchange(
 /// Removes a key with its pointer in place, if that is the expected one, and gives the answer. It compacts the index where that is
 /// sparse then.
 #[unsafe(no_mangle)]
-pub extern "C" fn blink_index_delete_exact(
+pub extern "C" fn blink_index_compare_remove(
     alloc: Global,
     index: &mut IndexHandle,
     key: u64,
     expected: u64,
     answer: &mut RawAnswer,
 )
-    ensures deleted { HasEdited index.old.value (DeleteExact key expected) answer.new
+    ensures removed { HasEdited index.old.value (DeleteExact key expected) answer.new
         index.new.value }
 {
     *answer = RawAnswer::of(index.get().delete_exact_and_compact(alloc, key, expected));

@@ -55,7 +55,7 @@ pub extern "C" fn blink_index_free(index: IndexHandle) {
 
 /// Looks a key up. It gives the key's record pointer, or leaves `pointer` as it was.
 #[unsafe(no_mangle)]
-pub extern "C" fn blink_index_find(index: &mut IndexHandle, key: u64, pointer: &mut u64) -> bool
+pub extern "C" fn blink_index_get(index: &mut IndexHandle, key: u64, pointer: &mut u64) -> bool
     ensures found { IsTrue result ↔ IsSome (pointer_of (map_of index.old.value) key) }
     ensures pointer { pointer.new ≡ pointer_or (pointer_of (map_of index.old.value) key) pointer.old }
     ensures same { index.new.value ≡ index.old.value }
@@ -65,7 +65,7 @@ pub extern "C" fn blink_index_find(index: &mut IndexHandle, key: u64, pointer: &
 
 /// Looks keys up, and gives the answer of each at its place.
 #[unsafe(no_mangle)]
-pub extern "C" fn blink_index_find_many(
+pub extern "C" fn blink_index_get_many(
     index: &mut IndexHandle,
     keys: &[u64],
     answers: &mut [RawAnswer],

@@ -128,23 +128,23 @@ pub extern "C" fn blink_map_join_alone(
     }
 }
 
-/// Stores how many rows and page numbers the pool of the current map has left. Sessions may draw at any time, so the counts prove nothing.
+/// Stores how many page numbers and rows the pool of the current map has left. Sessions may draw at any time, so the counts prove nothing.
 /// It looks so many times for a session that is in its place.
 #[unsafe(no_mangle)]
 pub extern "C" fn blink_map_room_alone(
     map: &mut MapHandle,
     looks: u32,
-    rows: &mut u64,
     pages: &mut u64,
+    rows: &mut u64,
 ) -> Code
     ensures refused { TellsWhy code_of IsRoomFault result }
-    ensures unchanged { result ≢ 0 → (rows.new ≡ rows.old) × (pages.new ≡ pages.old) }
+    ensures unchanged { result ≢ 0 → (pages.new ≡ pages.old) × (rows.new ≡ rows.old) }
     ensures same { map.new.value ≡ map.old.value }
 {
     match map.get().room(looks) {
         Ok(left) => {
-            *rows = left.0;
             *pages = left.1;
+            *rows = left.0;
             DONE
         }
         Err(refusal) => refusal.code(),

@@ -100,7 +100,7 @@ pub extern "C" fn blink_reader_free(reader: ReaderHandle) {
 
 /// Looks a key up. It gives the key's record pointer, or leaves `pointer` as it was.
 #[unsafe(no_mangle)]
-pub extern "C" fn blink_reader_find(reader: &mut ReaderHandle, key: u64, pointer: &mut u64) -> bool
+pub extern "C" fn blink_reader_get(reader: &mut ReaderHandle, key: u64, pointer: &mut u64) -> bool
     ensures found { IsTrue result ↔ IsSome (pointer_of (map_of (index_in reader.old.value)) key) }
     ensures pointer { pointer.new
         ≡ pointer_or (pointer_of (map_of (index_in reader.old.value)) key) pointer.old }
@@ -111,7 +111,7 @@ pub extern "C" fn blink_reader_find(reader: &mut ReaderHandle, key: u64, pointer
 
 /// Looks keys up, and gives the answer of each at its place.
 #[unsafe(no_mangle)]
-pub extern "C" fn blink_reader_find_many(
+pub extern "C" fn blink_reader_get_many(
     reader: &mut ReaderHandle,
     keys: &[u64],
     answers: &mut [RawAnswer],

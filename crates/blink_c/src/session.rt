@@ -19,7 +19,7 @@ use std::alloc::Global;
 /// Looks any key up, as the session has seen it by the end of the call. It looks `tries` times for the session, at least once, while the
 /// map is renewed.
 #[unsafe(no_mangle)]
-pub extern "C" fn blink_session_find(
+pub extern "C" fn blink_session_get_try(
     session: &mut SessionHandle,
     key: u64,
     tries: u32,
@@ -36,7 +36,7 @@ pub extern "C" fn blink_session_find(
 
 /// Gives the entries whose keys are from `lo` to `hi`, as many as there are places, and tells how far it came.
 #[unsafe(no_mangle)]
-pub extern "C" fn blink_session_scan(
+pub extern "C" fn blink_session_scan_try(
     session: &mut SessionHandle,
     lo: u64,
     hi: u64,
@@ -58,7 +58,7 @@ pub extern "C" fn blink_session_scan(
 /// Gives the entries whose keys are from `lo` to `hi`, the greatest first, as many as there are places, and tells how far it
 /// came.
 #[unsafe(no_mangle)]
-pub extern "C" fn blink_session_scan_back(
+pub extern "C" fn blink_session_scan_back_try(
     session: &mut SessionHandle,
     lo: u64,
     hi: u64,
@@ -80,7 +80,7 @@ pub extern "C" fn blink_session_scan_back(
 /// Takes a snapshot of the entries whose keys are from `lo` to `hi`, as all of them were at one time. It tries so many times, and
 /// tells whether one was taken, and how many entries it has.
 #[unsafe(no_mangle)]
-pub extern "C" fn blink_session_snapshot(
+pub extern "C" fn blink_session_snapshot_try(
     alloc: Global,
     session: &mut SessionHandle,
     lo: u64,
@@ -106,7 +106,7 @@ pub extern "C" fn blink_session_snapshot(
 /// Adds an entry. Where the map is full, the call renews it, unless its room is fixed. After `tries` steps in vain it returns with the
 /// insertion under way, which goes on by `blink_session_advance`.
 #[unsafe(no_mangle)]
-pub extern "C" fn blink_session_insert(
+pub extern "C" fn blink_session_insert_try(
     alloc: Global,
     session: &mut SessionHandle,
     key: u64,
@@ -123,7 +123,7 @@ pub extern "C" fn blink_session_insert(
 
 /// Removes a key. It may be under way then as an insertion.
 #[unsafe(no_mangle)]
-pub extern "C" fn blink_session_delete(
+pub extern "C" fn blink_session_remove_try(
     alloc: Global,
     session: &mut SessionHandle,
     key: u64,
@@ -139,7 +139,7 @@ pub extern "C" fn blink_session_delete(
 
 /// Replaces a key's pointer. It may be under way then as an insertion.
 #[unsafe(no_mangle)]
-pub extern "C" fn blink_session_replace(
+pub extern "C" fn blink_session_replace_try(
     alloc: Global,
     session: &mut SessionHandle,
     key: u64,
@@ -156,7 +156,7 @@ pub extern "C" fn blink_session_replace(
 
 /// Replaces a key's pointer, if it is the expected one. It may be under way then as an insertion.
 #[unsafe(no_mangle)]
-pub extern "C" fn blink_session_exchange(
+pub extern "C" fn blink_session_compare_exchange_try(
     alloc: Global,
     session: &mut SessionHandle,
     key: u64,
@@ -180,7 +180,7 @@ pub extern "C" fn blink_session_exchange(
 
 /// Removes a key with its pointer, if that is the expected one. It may be under way then as an insertion.
 #[unsafe(no_mangle)]
-pub extern "C" fn blink_session_delete_exact(
+pub extern "C" fn blink_session_compare_remove_try(
     alloc: Global,
     session: &mut SessionHandle,
     key: u64,
@@ -220,7 +220,7 @@ fn change(
 /// Puts an entry: replaces the key's pointer, and inserts the entry where the key is absent. The answer is that of the replacement or of
 /// the insertion. The put may be under way then as an insertion.
 #[unsafe(no_mangle)]
-pub extern "C" fn blink_session_put(
+pub extern "C" fn blink_session_put_try(
     alloc: Global,
     session: &mut SessionHandle,
     key: u64,
@@ -261,7 +261,7 @@ pub extern "C" fn blink_session_advance(
 /// Holds the session until `blink_session_let_go`. Calls on it wait for no renewal then, and the map is neither renewed nor
 /// closed, but for a change of this session that finds the map full.
 #[unsafe(no_mangle)]
-pub extern "C" fn blink_session_hold(session: &mut SessionHandle, tries: u32) -> Code
+pub extern "C" fn blink_session_hold_try(session: &mut SessionHandle, tries: u32) -> Code
     requires its_own { IsOwnSession session.old.value }
     ensures its_own { IsOwnSession session.new.value }
     ensures held { result ≡ 0 → SeesMore session.old.value session.new.value }
@@ -284,7 +284,7 @@ pub extern "C" fn blink_session_let_go(session: &mut SessionHandle)
 /// Tells what the session has of page numbers and rows in the map that it is in just now. It looks `tries` times for the session, at least
 /// once, while the map is renewed.
 #[unsafe(no_mangle)]
-pub extern "C" fn blink_session_reserve(
+pub extern "C" fn blink_session_reserve_try(
     session: &mut SessionHandle,
     tries: u32,
     stock: &mut RawStock,

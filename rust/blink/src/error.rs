@@ -26,9 +26,6 @@ pub enum Error {
     /// pool too; or the map was to be renewed. [`Map`](crate::Map#a-map-that-is-full) says what goes on then, and how a program opens a larger
     /// map.
     Full,
-    /// The session has enough rows and page numbers in all for the change, but some rows are on their way back. The same change may be
-    /// let through later.
-    RowsBusy,
     /// The map is being renewed by another thread; or it can't be, since a session is held or in a call.
     Renewing,
     /// The map was closed before. [`Map::close`](crate::Map::close) takes the map, so this crate's calls never return it.
@@ -46,7 +43,6 @@ impl Error {
             102 => Error::BadSessions,
             103 => Error::NoSession,
             105 => Error::Full,
-            107 => Error::RowsBusy,
             108 => Error::Closed,
             109 => Error::Renewing,
             _ => unreachable!("libblink returned code {code}"),
@@ -72,7 +68,6 @@ impl fmt::Display for Error {
             Error::BadSessions => f.write_str("the room of a map is for 1 to 256 sessions"),
             Error::NoSession => f.write_str("each place for a session is taken: drop a session, or open the map with more places"),
             Error::Full => f.write_str("too few page numbers or rows are left: close the map, and open one with more room over the index, or one that grows"),
-            Error::RowsBusy => f.write_str("rows of the session are on their way back: try again later"),
             Error::Closed => f.write_str("the map is closed"),
             Error::Renewing => f.write_str("the map is being renewed, or cannot be, since a session is held or in a call: try again"),
         }

@@ -178,7 +178,7 @@ impl Index {
     pub fn remove(&mut self, key: u64) -> Answer {
         let mut given = RawAnswer::NONE;
         // SAFETY: as in `insert`.
-        unsafe { sys::blink_index_delete(self.read.handle(), key, &mut given) };
+        unsafe { sys::blink_index_remove(self.read.handle(), key, &mut given) };
         Answer::of(given)
     }
 
@@ -205,7 +205,7 @@ impl Index {
     pub fn compare_exchange(&mut self, key: u64, expected: u64, new: u64) -> Answer {
         let mut given = RawAnswer::NONE;
         // SAFETY: as in `insert`.
-        unsafe { sys::blink_index_exchange(self.read.handle(), key, expected, new, &mut given) };
+        unsafe { sys::blink_index_compare_exchange(self.read.handle(), key, expected, new, &mut given) };
         Answer::of(given)
     }
 
@@ -223,7 +223,7 @@ impl Index {
     pub fn compare_remove(&mut self, key: u64, expected: u64) -> Answer {
         let mut given = RawAnswer::NONE;
         // SAFETY: as in `insert`.
-        unsafe { sys::blink_index_delete_exact(self.read.handle(), key, expected, &mut given) };
+        unsafe { sys::blink_index_compare_remove(self.read.handle(), key, expected, &mut given) };
         Answer::of(given)
     }
 

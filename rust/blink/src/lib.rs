@@ -27,7 +27,6 @@
 //!   grows. Who wants no pause of changes opens it with a [fixed room](Map::open_fixed).
 //! - [`Guards`] tell when an object may be freed whose pointer was taken out of a map.
 //! - [`keys`] makes keys of signed numbers, of floats and of pairs, in their order.
-//! - [`Unfinished`] is an operation of a session that has begun and waits for nobody.
 //!
 //! A `BTreeMap`'s calls have these names here. `insert` differs most: it leaves a present key as it is.
 //!
@@ -57,7 +56,6 @@
 #![warn(missing_docs)]
 
 mod collection;
-mod dropped;
 mod error;
 mod guards;
 mod index;
@@ -70,7 +68,6 @@ mod range;
 mod read;
 mod reader;
 mod session;
-mod steps;
 mod sys;
 mod waiting;
 
@@ -83,4 +80,3 @@ pub use range::{Limit, LiveRange};
 pub use read::Range;
 pub use reader::Reader;
 pub use session::{Holding, Reserve, Session};
-pub use steps::{Begun, Unfinished};

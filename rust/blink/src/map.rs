@@ -1,16 +1,12 @@
 //! The map.
 
-use crate::dropped::Dropped;
 use crate::range::Places;
 use crate::session::Session;
 use crate::sys::{self, Handle};
-use crate::waiting::{Pauses, TRIES};
+use crate::waiting::TRIES;
 use crate::{Error, Index};
 use std::fmt;
-use std::sync::{Arc, Mutex, MutexGuard, PoisonError};
-
-// How often a close lets other threads run for operations that were dropped. Each ends once no session is in a call that has its page.
-const CLOSE_PAUSES: u32 = 1_000;
+use std::sync::{Mutex, MutexGuard, PoisonError};
 
 /// What a map has beside its entries, for changes and sessions to come. [`Room::for_insertions`] and [`Map::with_capacity`] work it out; the
 /// numbers are for a program that knows its keys.
@@ -22,11 +18,11 @@ pub struct Room {
     /// and 179 of 200; by eight that draw by turns 19,834 and 836 (measured).
     pub pages: u32,
     /// Rows, of 576 bytes. Most changes are appended to the row of their page, and take none; every write of a whole page takes one. An
-    /// insertion has to have 44 when it begins; a deletion, a replacement or an exchange has to have one. The row that a write replaces
+    /// insertion has to have 44 when it begins; any other change has to have one. The row that a write replaces
     /// comes back to its session, once each call that was in progress has ended. Half of the rows are the sessions', in equal parts, of 44
     /// at least and 4,096 at most; a new page keeps one of the others. So two rows for each page number, and a few hundred for each session, are enough for
-    /// all changes as long as the page numbers last. While a thread is held up inside a call no row comes back. A change that is
-    /// short of rows on their way back waits, or is refused with [`Error::RowsBusy`] where it mustn't wait.
+    /// all changes as long as the page numbers last. While a thread is held up inside a call no row comes back, and a
+    /// change that is short of rows waits.
     pub rows: u32,
     /// The sessions that are to change the map, 1 to 256: the rows are parted among so many. A [fixed](Map::open_fixed) map has places for no
     /// more; any other has 256.
@@ -132,8 +128,6 @@ pub struct Left {
 pub struct Map {
     // One thread at a time uses the handle. Sessions have their own.
     handle: Mutex<Handle>,
-    // Each session has a share of it.
-    dropped: Arc<Dropped>,
 }
 
 // SAFETY: `MapHandle` of crates/blink_c is proved to be `Send`.
@@ -250,7 +244,7 @@ impl Map {
     fn opened(open: impl FnOnce(*mut Handle) -> sys::Code) -> Result<Map, Error> {
         let mut handle = Handle::EMPTY;
         Error::check(open(&mut handle))?;
-        Ok(Map { handle: Mutex::new(handle), dropped: Arc::default() })
+        Ok(Map { handle: Mutex::new(handle) })
     }
 
     /// Joins the map. The session has a place until it is dropped. It is refused with [`Error::NoSession`], if each place is taken, and with
@@ -267,11 +261,10 @@ impl Map {
     /// # Ok::<(), Error>(())
     /// ```
     pub fn session(&self) -> Result<Session, Error> {
-        self.dropped.advance(TRIES);
         let (mut handle, places) = (Handle::EMPTY, Places::new()?);
         // SAFETY: the map's handle is full, and locked; `handle` is empty.
         Error::check(unsafe { sys::blink_map_join_alone(&mut *self.lock(), &mut handle) })?;
-        Ok(Session { handle, dropped: Arc::clone(&self.dropped), places })
+        Ok(Session { handle, places })
     }
 
     /// Returns what the map's pool has left, for a look: sessions may draw at any time, and the map may be renewed. What they have drawn and
@@ -287,7 +280,7 @@ impl Map {
     pub fn room(&self) -> Result<Left, Error> {
         let mut left = Left { pages: 0, rows: 0 };
         // SAFETY: the map's handle is full, and locked.
-        Error::check(unsafe { sys::blink_map_room_alone(&mut *self.lock(), TRIES, &mut left.rows, &mut left.pages) })?;
+        Error::check(unsafe { sys::blink_map_room_alone(&mut *self.lock(), TRIES, &mut left.pages, &mut left.rows) })?;
         Ok(left)
     }
 
@@ -313,7 +306,6 @@ impl Map {
     /// # Ok::<(), Error>(())
     /// ```
     pub fn renew(&self, looks: u32) -> Result<(), Error> {
-        self.dropped.advance(TRIES);
         // By a handle of its own, so that threads join the map meanwhile.
         let mut own = Handle::EMPTY;
         // SAFETY: the map's handle is full, and locked; `own` is empty.
@@ -328,9 +320,8 @@ impl Map {
     }
 
     /// Closes the map. The index that it returns has the entries that the map was opened with, after all changes, in as few pages as they
-    /// need. An [`Unfinished`](crate::Unfinished) that was dropped is ended before. The close is refused with [`Error::Missing`], if a session
-    /// hasn't been dropped, or such an operation waits for one that is in a call; with [`Error::OutOfMemory`]; and with [`Error::TooLarge`], if
-    /// the entries need more pages than there are numbers. Each gives the map back with all its entries, and it can be closed again; no session
+    /// need. It is refused with [`Error::Missing`], if a session hasn't been dropped; with [`Error::OutOfMemory`]; and with
+    /// [`Error::TooLarge`], if the entries need more pages than there are numbers. Each gives the map back with all its entries, and it can be closed again; no session
     /// may join any more after the last two. With `?` the map that comes back is dropped, with its entries. A program that may need them
     /// matches on [`Unclosed`].
     ///
@@ -347,13 +338,6 @@ impl Map {
     /// # Ok::<(), Error>(())
     /// ```
     pub fn close(self) -> Result<Index, Unclosed> {
-        let mut pauses = Pauses::default();
-        for _ in 0..CLOSE_PAUSES {
-            if self.dropped.advance(TRIES) {
-                break;
-            }
-            pauses.pause();
-        }
         let index = Index::filled(|out| {
             // SAFETY: the handle is full, and locked; `out` is empty.
             unsafe { sys::blink_map_close(&mut *self.lock(), out) }

@@ -40,8 +40,8 @@ pub(crate) struct OfIndex;
 
 impl Kind for OfIndex {
     const CALLS: Calls = Calls {
-        find: sys::blink_index_find,
-        find_many: sys::blink_index_find_many,
+        find: sys::blink_index_get,
+        find_many: sys::blink_index_get_many,
         scan: sys::blink_index_scan,
         scan_back: sys::blink_index_scan_back,
         count: sys::blink_index_count,
@@ -63,8 +63,8 @@ pub(crate) struct OfReader;
 
 impl Kind for OfReader {
     const CALLS: Calls = Calls {
-        find: sys::blink_reader_find,
-        find_many: sys::blink_reader_find_many,
+        find: sys::blink_reader_get,
+        find_many: sys::blink_reader_get_many,
         scan: sys::blink_reader_scan,
         scan_back: sys::blink_reader_scan_back,
         count: sys::blink_reader_count,

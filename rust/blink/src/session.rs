@@ -1,14 +1,11 @@
 //! The session of a map.
 
-use crate::dropped::Dropped;
 use crate::range::{end_of, snapshot, LiveRange, Places};
-use crate::steps::{begins, Begun};
 use crate::sys::{self, Code, Handle, RawAnswer, RawEntry, RawScanned, RawTaken};
 use crate::waiting::{ended, renewed, TRIES};
-use crate::{Answer, Error, Op};
+use crate::{Answer, Error};
 use std::fmt;
 use std::ops::{Bound, Deref, DerefMut, RangeBounds};
-use std::sync::Arc;
 
 /// What a session has of its map's page numbers and rows. They are its own until it is dropped; then the next session at its
 /// place has them.
@@ -50,7 +47,6 @@ pub struct Reserve {
 /// A change that finds the map full waits while another session is [held](Session::hold), so that the map can't be renewed.
 pub struct Session {
     pub(crate) handle: Handle,
-    pub(crate) dropped: Arc<Dropped>,
     pub(crate) places: Places,
 }
 
@@ -71,7 +67,7 @@ impl Session {
     pub fn get(&mut self, key: u64) -> Option<u64> {
         let mut answer = RawAnswer::NONE;
         // SAFETY: the handle is full and borrowed for writing.
-        let code = renewed(|| unsafe { sys::blink_session_find(&mut self.handle, key, TRIES, &mut answer) });
+        let code = renewed(|| unsafe { sys::blink_session_get_try(&mut self.handle, key, TRIES, &mut answer) });
         // No operation is under way between two calls; nothing else is refused.
         assert_eq!(code, 0);
         Answer::of(answer).pointer()
@@ -277,19 +273,19 @@ impl Session {
     /// the room once its rows have come back.
     pub fn insert(&mut self, key: u64, pointer: u64) -> Result<Answer, Error> {
         // SAFETY: as in `get`.
-        self.ended(|handle, tries, answer| unsafe { sys::blink_session_insert(handle, key, pointer, tries, answer) })
+        self.ended(|handle, tries, answer| unsafe { sys::blink_session_insert_try(handle, key, pointer, tries, answer) })
     }
 
     /// Takes a key away, if it is there: [`Answer::Removed`] or [`Answer::Absent`].
     pub fn remove(&mut self, key: u64) -> Result<Answer, Error> {
         // SAFETY: as in `get`.
-        self.ended(|handle, tries, answer| unsafe { sys::blink_session_delete(handle, key, tries, answer) })
+        self.ended(|handle, tries, answer| unsafe { sys::blink_session_remove_try(handle, key, tries, answer) })
     }
 
     /// Maps a key to a pointer, if the key is there: [`Answer::Replaced`] or [`Answer::Absent`].
     pub fn replace(&mut self, key: u64, pointer: u64) -> Result<Answer, Error> {
         // SAFETY: as in `get`.
-        self.ended(|handle, tries, answer| unsafe { sys::blink_session_replace(handle, key, pointer, tries, answer) })
+        self.ended(|handle, tries, answer| unsafe { sys::blink_session_replace_try(handle, key, pointer, tries, answer) })
     }
 
     /// Maps a key to `new`, if it maps to `expected`: [`Answer::Replaced`] with `expected`. Else the key stays as it was:
@@ -309,7 +305,7 @@ impl Session {
     /// ```
     pub fn compare_exchange(&mut self, key: u64, expected: u64, new: u64) -> Result<Answer, Error> {
         // SAFETY: as in `get`.
-        self.ended(|handle, tries, answer| unsafe { sys::blink_session_exchange(handle, key, expected, new, tries, answer) })
+        self.ended(|handle, tries, answer| unsafe { sys::blink_session_compare_exchange_try(handle, key, expected, new, tries, answer) })
     }
 
     /// Takes a key away, if it maps to `expected`: [`Answer::Removed`] with `expected`. Else the key stays as it was:
@@ -329,7 +325,7 @@ impl Session {
     /// ```
     pub fn compare_remove(&mut self, key: u64, expected: u64) -> Result<Answer, Error> {
         // SAFETY: as in `get`.
-        self.ended(|handle, tries, answer| unsafe { sys::blink_session_delete_exact(handle, key, expected, tries, answer) })
+        self.ended(|handle, tries, answer| unsafe { sys::blink_session_compare_remove_try(handle, key, expected, tries, answer) })
     }
 
     /// Maps a key to what `next` makes of the pointer that it maps to, or of none, in one step: when the change is made, the key maps
@@ -384,7 +380,7 @@ impl Session {
     /// ```
     pub fn put(&mut self, key: u64, pointer: u64) -> Result<Option<u64>, Error> {
         // SAFETY: as in `get`.
-        let put = self.ended(|handle, tries, answer| unsafe { sys::blink_session_put(handle, key, pointer, tries, answer) })?;
+        let put = self.ended(|handle, tries, answer| unsafe { sys::blink_session_put_try(handle, key, pointer, tries, answer) })?;
         Ok(put.pointer())
     }
 
@@ -406,7 +402,7 @@ impl Session {
     /// ```
     pub fn hold(&mut self) -> Holding<'_> {
         // SAFETY: as in `get`.
-        let code = renewed(|| unsafe { sys::blink_session_hold(&mut self.handle, TRIES) });
+        let code = renewed(|| unsafe { sys::blink_session_hold_try(&mut self.handle, TRIES) });
         // No operation is under way between two calls; nothing else is refused.
         assert_eq!(code, 0);
         Holding { session: self }
@@ -428,99 +424,10 @@ impl Session {
     pub fn reserve(&mut self) -> Reserve {
         let mut reserve = Reserve { pages: 0, unwritten: 0, free: 0, taken_out: 0, waiting: 0 };
         // SAFETY: as in `get`.
-        let code = renewed(|| unsafe { sys::blink_session_reserve(&mut self.handle, TRIES, &mut reserve) });
+        let code = renewed(|| unsafe { sys::blink_session_reserve_try(&mut self.handle, TRIES, &mut reserve) });
         // No operation is under way between two calls; nothing else is refused.
         assert_eq!(code, 0);
         reserve
-    }
-
-    /// Begins an operation and takes its first steps, which wait for nobody. Where another session has the page that it wants for
-    /// `tries` steps, it rests as an [`Unfinished`](crate::Unfinished), and the thread may do something else. A look-up ends at once. Where the
-    /// map is full, a change renews it, which takes the time of a copy of all entries.
-    ///
-    /// It is refused with [`Error::Renewing`], where the map is being renewed at so many looks, or can't be renewed since a session is held or
-    /// in a call; with [`Error::RowsBusy`], where rows of the session are on their way back; and as [`Session::insert`] is. A refusal hands
-    /// the session back, and nothing has changed.
-    ///
-    /// ```
-    /// use blink::{Answer, Begun, Map, Op};
-    ///
-    /// let map = Map::new(32)?;
-    /// let mut begun = map.session()?.begin(Op::Insert(5, 50), 10).map_err(|(_, error)| error)?;
-    /// let (mut session, answer) = loop {
-    ///     match begun {
-    ///         Begun::Ended(session, answer) => break (session, answer),
-    ///         Begun::Resting(unfinished) => begun = unfinished.advance(10), // something else may be done first
-    ///         Begun::Refused(_, error) => return Err(error), // of a put alone
-    ///     }
-    /// };
-    /// assert_eq!((answer, session.get(5)), (Answer::Inserted, Some(50)));
-    /// # Ok::<(), blink::Error>(())
-    /// ```
-    pub fn begin(mut self, op: Op, tries: u32) -> Result<Begun, (Session, Error)> {
-        let mut answer = RawAnswer::NONE;
-        let handle = &mut self.handle;
-        // SAFETY: the handle is full and this call's own.
-        let code = unsafe {
-            match op {
-                Op::Get(key) => sys::blink_session_find(handle, key, tries, &mut answer),
-                Op::Insert(key, pointer) => sys::blink_session_insert(handle, key, pointer, tries, &mut answer),
-                Op::Remove(key) => sys::blink_session_delete(handle, key, tries, &mut answer),
-                Op::Replace(key, pointer) => sys::blink_session_replace(handle, key, pointer, tries, &mut answer),
-            }
-        };
-        begins(self, code, answer)
-    }
-
-    /// Begins an exchange of an expected pointer, as [`Session::begin`] begins an operation. Its answer is [`Answer::Replaced`] with the
-    /// expected pointer, [`Answer::Exists`] with another one, which stays, or [`Answer::Absent`].
-    pub fn begin_compare_exchange(
-        mut self,
-        key: u64,
-        expected: u64,
-        pointer: u64,
-        tries: u32,
-    ) -> Result<Begun, (Session, Error)> {
-        let mut answer = RawAnswer::NONE;
-        // SAFETY: the handle is full and this call's own.
-        let code = unsafe { sys::blink_session_exchange(&mut self.handle, key, expected, pointer, tries, &mut answer) };
-        begins(self, code, answer)
-    }
-
-    /// Begins a removal of an expected pointer, likewise: its answer is [`Answer::Removed`] with the expected pointer,
-    /// [`Answer::Exists`] with another one, which stays, or [`Answer::Absent`].
-    pub fn begin_compare_remove(mut self, key: u64, expected: u64, tries: u32) -> Result<Begun, (Session, Error)> {
-        let mut answer = RawAnswer::NONE;
-        // SAFETY: the handle is full and this call's own.
-        let code = unsafe { sys::blink_session_delete_exact(&mut self.handle, key, expected, tries, &mut answer) };
-        begins(self, code, answer)
-    }
-
-    /// Begins to put an entry, as [`Session::begin`] begins an operation: its answer is [`Answer::Inserted`], or [`Answer::Replaced`] with
-    /// the pointer that was there. Also one that has begun may be refused, as [`Begun::Refused`]; then nothing has changed.
-    ///
-    /// ```
-    /// use blink::{Answer, Begun, Map};
-    ///
-    /// let map = Map::new(32)?;
-    /// let mut session = map.session()?;
-    /// session.insert(5, 50)?;
-    /// let mut begun = session.begin_put(5, 51, 10).map_err(|(_, error)| error)?;
-    /// let answer = loop {
-    ///     match begun {
-    ///         Begun::Ended(_, answer) => break answer,
-    ///         Begun::Refused(_, error) => return Err(error),
-    ///         Begun::Resting(unfinished) => begun = unfinished.advance(10),
-    ///     }
-    /// };
-    /// assert_eq!(answer, Answer::Replaced(50));
-    /// # Ok::<(), blink::Error>(())
-    /// ```
-    pub fn begin_put(mut self, key: u64, pointer: u64, tries: u32) -> Result<Begun, (Session, Error)> {
-        let mut answer = RawAnswer::NONE;
-        // SAFETY: the handle is full and this call's own.
-        let code = unsafe { sys::blink_session_put(&mut self.handle, key, pointer, tries, &mut answer) };
-        begins(self, code, answer)
     }
 
     // The entry of the least key in the range, if there is one.
@@ -537,7 +444,7 @@ impl Session {
 
     // Begins an operation, and takes its steps to the end.
     fn ended(&mut self, begin: impl FnMut(*mut Handle, u32, *mut RawAnswer) -> Code) -> Result<Answer, Error> {
-        ended(&mut self.handle, &self.dropped, begin)
+        ended(&mut self.handle, begin)
     }
 
     // Takes the entry away that `first` names, one after another until no other session was faster.
@@ -599,7 +506,7 @@ impl Drop for Holding<'_> {
 
 unsafe extern "C" fn scan(handle: *mut Handle, lo: u64, hi: u64, entries: *mut RawEntry, places: usize, scanned: *mut RawScanned) -> Code {
     // SAFETY: as the caller says.
-    renewed(|| unsafe { sys::blink_session_scan(handle, lo, hi, TRIES, entries, places, scanned) })
+    renewed(|| unsafe { sys::blink_session_scan_try(handle, lo, hi, TRIES, entries, places, scanned) })
 }
 
 unsafe extern "C" fn scan_back(
@@ -611,7 +518,7 @@ unsafe extern "C" fn scan_back(
     scanned: *mut RawScanned,
 ) -> Code {
     // SAFETY: as the caller says.
-    renewed(|| unsafe { sys::blink_session_scan_back(handle, lo, hi, TRIES, entries, places, scanned) })
+    renewed(|| unsafe { sys::blink_session_scan_back_try(handle, lo, hi, TRIES, entries, places, scanned) })
 }
 
 unsafe extern "C" fn take(
@@ -624,5 +531,5 @@ unsafe extern "C" fn take(
     taken: *mut RawTaken,
 ) -> Code {
     // SAFETY: as the caller says.
-    renewed(|| unsafe { sys::blink_session_snapshot(handle, lo, hi, tries, entries, places, taken) })
+    renewed(|| unsafe { sys::blink_session_snapshot_try(handle, lo, hi, tries, entries, places, taken) })
 }

@@ -122,16 +122,16 @@ extern "C" {
     pub(crate) fn blink_index_compact(index: *mut Handle) -> Code;
     pub(crate) fn blink_index_copy(index: *mut Handle, out: *mut Handle) -> Code;
     pub(crate) fn blink_index_insert(index: *mut Handle, key: u64, pointer: u64, answer: *mut RawAnswer) -> Code;
-    pub(crate) fn blink_index_delete(index: *mut Handle, key: u64, answer: *mut RawAnswer);
+    pub(crate) fn blink_index_remove(index: *mut Handle, key: u64, answer: *mut RawAnswer);
     pub(crate) fn blink_index_replace(index: *mut Handle, key: u64, pointer: u64, answer: *mut RawAnswer);
-    pub(crate) fn blink_index_exchange(
+    pub(crate) fn blink_index_compare_exchange(
         index: *mut Handle,
         key: u64,
         expected: u64,
         pointer: u64,
         answer: *mut RawAnswer,
     );
-    pub(crate) fn blink_index_delete_exact(index: *mut Handle, key: u64, expected: u64, answer: *mut RawAnswer);
+    pub(crate) fn blink_index_compare_remove(index: *mut Handle, key: u64, expected: u64, answer: *mut RawAnswer);
     pub(crate) fn blink_index_first(index: *mut Handle, entry: *mut RawEntry) -> bool;
     pub(crate) fn blink_index_last(index: *mut Handle, entry: *mut RawEntry) -> bool;
     pub(crate) fn blink_index_next(index: *mut Handle, key: u64, entry: *mut RawEntry) -> bool;
@@ -153,8 +153,8 @@ extern "C" {
         answers: *mut RawAnswer,
         places: usize,
     ) -> Code;
-    pub(crate) fn blink_index_find(index: *mut Handle, key: u64, pointer: *mut u64) -> bool;
-    pub(crate) fn blink_index_find_many(
+    pub(crate) fn blink_index_get(index: *mut Handle, key: u64, pointer: *mut u64) -> bool;
+    pub(crate) fn blink_index_get_many(
         index: *mut Handle,
         keys: *const u64,
         count: usize,
@@ -187,8 +187,8 @@ extern "C" {
     pub(crate) fn blink_index_share(index: *mut Handle, out: *mut Handle) -> Code;
     pub(crate) fn blink_reader_join(reader: *mut Handle, out: *mut Handle) -> Code;
     pub(crate) fn blink_reader_unshare(reader: *mut Handle, out: *mut Handle) -> Code;
-    pub(crate) fn blink_reader_find(reader: *mut Handle, key: u64, pointer: *mut u64) -> bool;
-    pub(crate) fn blink_reader_find_many(
+    pub(crate) fn blink_reader_get(reader: *mut Handle, key: u64, pointer: *mut u64) -> bool;
+    pub(crate) fn blink_reader_get_many(
         reader: *mut Handle,
         keys: *const u64,
         count: usize,
@@ -237,13 +237,13 @@ extern "C" {
     ) -> Code;
     pub(crate) fn blink_map_share_alone(map: *mut Handle, out: *mut Handle) -> Code;
     pub(crate) fn blink_map_join_alone(map: *mut Handle, out: *mut Handle) -> Code;
-    pub(crate) fn blink_map_room_alone(map: *mut Handle, looks: u32, rows: *mut u64, pages: *mut u64) -> Code;
+    pub(crate) fn blink_map_room_alone(map: *mut Handle, looks: u32, pages: *mut u64, rows: *mut u64) -> Code;
     pub(crate) fn blink_map_renew(map: *mut Handle, looks: u32) -> Code;
     pub(crate) fn blink_map_close(map: *mut Handle, out: *mut Handle) -> Code;
     pub(crate) fn blink_map_free(map: Handle);
 
-    pub(crate) fn blink_session_find(session: *mut Handle, key: u64, tries: u32, answer: *mut RawAnswer) -> Code;
-    pub(crate) fn blink_session_scan(
+    pub(crate) fn blink_session_get_try(session: *mut Handle, key: u64, tries: u32, answer: *mut RawAnswer) -> Code;
+    pub(crate) fn blink_session_scan_try(
         session: *mut Handle,
         lo: u64,
         hi: u64,
@@ -252,7 +252,7 @@ extern "C" {
         places: usize,
         scanned: *mut RawScanned,
     ) -> Code;
-    pub(crate) fn blink_session_scan_back(
+    pub(crate) fn blink_session_scan_back_try(
         session: *mut Handle,
         lo: u64,
         hi: u64,
@@ -261,7 +261,7 @@ extern "C" {
         places: usize,
         scanned: *mut RawScanned,
     ) -> Code;
-    pub(crate) fn blink_session_snapshot(
+    pub(crate) fn blink_session_snapshot_try(
         session: *mut Handle,
         lo: u64,
         hi: u64,
@@ -270,22 +270,22 @@ extern "C" {
         places: usize,
         taken: *mut RawTaken,
     ) -> Code;
-    pub(crate) fn blink_session_insert(
+    pub(crate) fn blink_session_insert_try(
         session: *mut Handle,
         key: u64,
         pointer: u64,
         tries: u32,
         answer: *mut RawAnswer,
     ) -> Code;
-    pub(crate) fn blink_session_delete(session: *mut Handle, key: u64, tries: u32, answer: *mut RawAnswer) -> Code;
-    pub(crate) fn blink_session_replace(
+    pub(crate) fn blink_session_remove_try(session: *mut Handle, key: u64, tries: u32, answer: *mut RawAnswer) -> Code;
+    pub(crate) fn blink_session_replace_try(
         session: *mut Handle,
         key: u64,
         pointer: u64,
         tries: u32,
         answer: *mut RawAnswer,
     ) -> Code;
-    pub(crate) fn blink_session_exchange(
+    pub(crate) fn blink_session_compare_exchange_try(
         session: *mut Handle,
         key: u64,
         expected: u64,
@@ -293,14 +293,14 @@ extern "C" {
         tries: u32,
         answer: *mut RawAnswer,
     ) -> Code;
-    pub(crate) fn blink_session_delete_exact(
+    pub(crate) fn blink_session_compare_remove_try(
         session: *mut Handle,
         key: u64,
         expected: u64,
         tries: u32,
         answer: *mut RawAnswer,
     ) -> Code;
-    pub(crate) fn blink_session_put(
+    pub(crate) fn blink_session_put_try(
         session: *mut Handle,
         key: u64,
         pointer: u64,
@@ -308,8 +308,8 @@ extern "C" {
         answer: *mut RawAnswer,
     ) -> Code;
     pub(crate) fn blink_session_advance(session: *mut Handle, tries: u32, answer: *mut RawAnswer) -> Code;
-    pub(crate) fn blink_session_hold(session: *mut Handle, tries: u32) -> Code;
+    pub(crate) fn blink_session_hold_try(session: *mut Handle, tries: u32) -> Code;
     pub(crate) fn blink_session_let_go(session: *mut Handle);
-    pub(crate) fn blink_session_reserve(session: *mut Handle, tries: u32, reserve: *mut crate::Reserve) -> Code;
+    pub(crate) fn blink_session_reserve_try(session: *mut Handle, tries: u32, reserve: *mut crate::Reserve) -> Code;
     pub(crate) fn blink_session_free(session: Handle);
 }

@@ -1,9 +1,6 @@
-//! How a thread waits whose operation another one holds up.
-//!
-//! [`Session::insert`](crate::Session::insert) and the other changes wait so. The calls that wait for nobody take the number of their tries
-//! from the caller.
+//! How a thread waits whose operation another one holds up, as that of [`Session::insert`](crate::Session::insert) and the other changes. The
+//! exports wait for nobody, and take a number of tries.
 
-use crate::dropped::Dropped;
 use crate::sys::{self, Code, Handle, RawAnswer};
 use crate::{Answer, Error};
 use std::thread;
@@ -41,12 +38,8 @@ impl Pauses {
 }
 
 /// Begins an operation of a session, and takes its steps to the end. It begins again where the session's rows were on their way back, and where
-/// the map was being renewed or couldn't be, with more tries then. The handle is full, and a session's; the others are of its map.
-pub(crate) fn ended(
-    handle: &mut Handle,
-    dropped: &Dropped,
-    mut begin: impl FnMut(*mut Handle, u32, *mut RawAnswer) -> Code,
-) -> Result<Answer, Error> {
+/// the map was being renewed or couldn't be, with more tries then. The handle is full, and a session's.
+pub(crate) fn ended(handle: &mut Handle, mut begin: impl FnMut(*mut Handle, u32, *mut RawAnswer) -> Code) -> Result<Answer, Error> {
     let mut answer = RawAnswer::NONE;
     let mut tries = TRIES;
     let mut pauses = Pauses::default();
@@ -57,8 +50,6 @@ pub(crate) fn ended(
             sys::PENDING => unsafe { sys::blink_session_advance(handle, TRIES, &mut answer) },
             sys::ROWS_BUSY => begin(handle, tries, &mut answer),
             sys::RENEWING => {
-                // Such an operation keeps the map from being renewed.
-                dropped.advance(TRIES);
                 tries = (10 * tries).min(MOST_TRIES);
                 begin(handle, tries, &mut answer)
             }

@@ -4,9 +4,11 @@
 #![cfg(all(target_os = "linux", target_arch = "x86_64", target_env = "gnu"))]
 
 mod stepped;
+mod tried;
 
-use blink::{Answer, Begun, Index, Map, Op, Room, Session, Unfinished};
+use blink::{Answer, Op, Reserve, Room};
 use stepped::by_instruction;
+use tried::Map;
 
 // Sixteen keys in four full leaves below a full root: the insertion splits a leaf and the root, and makes a root.
 fn entries() -> Vec<(u64, u64)> {
@@ -35,48 +37,32 @@ const OTHERS: [Other; 6] = [
     Other { key: 165, op: Op::Insert(165, 9), answer: Answer::Inserted, left: Some(9), rests: true },
 ];
 
-// Goes on with the change until it has ended.
-fn end(mut resting: Unfinished) -> Answer {
-    loop {
-        match resting.advance(1) {
-            Begun::Ended(_, answer) => return answer,
-            Begun::Refused(_, error) => panic!("no put: {error}"),
-            Begun::Resting(unfinished) => resting = unfinished,
-        }
-    }
-}
-
 // Begins the change after so many instructions of the insertion, and returns whether it rested; none, if there are fewer.
 fn begins_after(instructions: u32, other: &Other) -> Option<bool> {
-    let map = Map::open_fixed(&Index::from_sorted(4, entries()).unwrap(), Room { pages: 44, rows: 88, sessions: 2 }).unwrap();
-    let mut writer = map.session().unwrap();
-    let mut free: Option<Session> = Some(map.session().unwrap());
+    let map = Map::open(4, &entries(), Some(Room { pages: 44, rows: 88, sessions: 2 }));
+    let (mut writer, mut session) = (map.session(), map.session());
     let (mut passed, mut begun) = (0, None);
     let inserted = by_instruction(
-        || writer.insert(NEW.0, NEW.1),
+        || writer.begin(Op::Insert(NEW.0, NEW.1), 100),
         || {
             if passed == instructions {
-                begun = free.take().map(|session| session.begin(other.op, 1));
+                begun = Some(session.begin(other.op, 1));
             }
             passed += 1;
             begun.is_none()
         },
     );
-    assert_eq!(inserted, Ok(Answer::Inserted));
-    let (rested, answer) = match begun?.unwrap() {
-        Begun::Ended(_, answer) => (false, answer),
-        Begun::Refused(_, error) => panic!("no put: {error}"),
-        Begun::Resting(unfinished) => (true, end(unfinished)),
-    };
-    assert_eq!(answer, other.answer, "{:?} after {instructions} instructions", other.op);
-    drop((writer, free));
+    assert_eq!(inserted, Ok(Some(Answer::Inserted)));
+    let begun = begun?.unwrap();
+    assert_eq!(session.end(begun), other.answer, "{:?} after {instructions} instructions", other.op);
+    drop((writer, session));
     let mut expected = entries();
     expected.push(NEW);
     expected.retain(|(key, _)| *key != other.key);
     expected.extend(other.left.map(|pointer| (other.key, pointer)));
     expected.sort_by_key(|(key, _)| *key);
-    assert!(map.close().unwrap().iter().eq(expected), "{:?} after {instructions} instructions", other.op);
-    Some(rested)
+    assert_eq!(map.close(), expected, "{:?} after {instructions} instructions", other.op);
+    Some(begun.is_none())
 }
 
 #[test]

@@ -1,6 +1,6 @@
 //! Eight threads that raise one counter, each by a session of its own.
 
-use blink::{Answer, Begun, Index, Map, Room, Session};
+use blink::{Answer, Index, Map, Room, Session};
 use std::thread;
 
 const THREADS: u64 = 8;
@@ -104,43 +104,4 @@ fn no_update_is_removed_unseen() {
     });
     // the counter began at 0, which the first raise made 1
     assert_eq!(left, None);
-}
-
-// The session, and the answer of the operation that has begun.
-fn ended(mut begun: Begun) -> (Session, Answer) {
-    loop {
-        match begun {
-            Begun::Ended(session, answer) => return (session, answer),
-            Begun::Resting(unfinished) => begun = unfinished.advance(10),
-            Begun::Refused(_, error) => panic!("no put: {error}"),
-        }
-    }
-}
-
-#[test]
-fn an_exchange_begins_and_rests() {
-    let map = Map::open_fixed(&Index::new(8).unwrap(), ROOM).unwrap();
-    let mut session = map.session().unwrap();
-    session.insert(COUNTER, 70).unwrap();
-    for (expected, answer) in [(71, Answer::Exists(70)), (70, Answer::Replaced(70)), (70, Answer::Exists(72))] {
-        let begun = session.begin_compare_exchange(COUNTER, expected, 72, 10).map_err(|(_, error)| error).unwrap();
-        let (after, given) = ended(begun);
-        assert_eq!(given, answer);
-        session = after;
-    }
-    assert_eq!(session.get(COUNTER), Some(72));
-}
-
-#[test]
-fn a_removal_begins_and_rests() {
-    let map = Map::open_fixed(&Index::new(8).unwrap(), ROOM).unwrap();
-    let mut session = map.session().unwrap();
-    session.insert(COUNTER, 70).unwrap();
-    for (expected, answer) in [(71, Answer::Exists(70)), (70, Answer::Removed(70)), (70, Answer::Absent)] {
-        let begun = session.begin_compare_remove(COUNTER, expected, 10).map_err(|(_, error)| error).unwrap();
-        let (after, given) = ended(begun);
-        assert_eq!(given, answer);
-        session = after;
-    }
-    assert_eq!(session.get(COUNTER), None);
 }

@@ -4,11 +4,14 @@
 //! Gong do: a call may come next if no other that is left ended before it began. Every pointer is stored by one call alone, so that a value
 //! read tells which call stored it.
 
-use blink::{Answer, Begun, Error, Index, Map, Op, Room, Session};
+mod tried;
+
+use blink::{Answer, Index, Map, Op, Reserve, Room, Session};
 use std::collections::{BTreeSet, HashMap, HashSet};
 use std::sync::atomic::{AtomicBool, Ordering};
 use std::thread;
 use std::time::{Duration, Instant};
+use tried::sys::{Code, RENEWING, ROWS_BUSY};
 
 const THREADS: u64 = 8;
 
@@ -118,68 +121,126 @@ fn told_by(op: Op, answer: Answer) -> (State, State) {
     }
 }
 
-// An operation that begins, also where the session's rows are on their way back for a while, or the map is renewed.
-fn begins(mut session: Session, op: Op) -> Begun {
-    loop {
-        match session.begin(op, 1) {
-            Ok(begun) => return begun,
-            Err((free, Error::RowsBusy | Error::Renewing)) => session = free,
-            Err((_, error)) => panic!("{op:?}: {error}"),
-        }
-        thread::yield_now();
+// What the threads share: a map of the crate, whose calls are whole; or one by the exports that wait for nobody, whose operations go by steps.
+trait Shared: Sync {
+    type Session;
+    fn session(&self) -> Self::Session;
+    // An operation's answer, and how often it rested.
+    fn call(session: &mut Self::Session, op: Op, random: &mut u64) -> (Answer, u64);
+    // What a put replaced, and how often it rested.
+    fn put(session: &mut Self::Session, key: u64, pointer: u64, random: &mut u64) -> (State, u64);
+    // Renews the map, and returns whether it could.
+    fn renew(&self) -> bool;
+    // Closes the map, and returns its entries.
+    fn close(self) -> HashMap<u64, u64>;
+}
+
+impl Shared for Map {
+    type Session = Session;
+
+    fn session(&self) -> Session {
+        Map::session(self).unwrap()
+    }
+
+    fn call(session: &mut Session, op: Op, _: &mut u64) -> (Answer, u64) {
+        let answer = match op {
+            Op::Insert(key, pointer) => session.insert(key, pointer).unwrap(),
+            Op::Remove(key) => session.remove(key).unwrap(),
+            Op::Replace(key, pointer) => session.replace(key, pointer).unwrap(),
+            Op::Get(key) => session.get(key).map_or(Answer::Absent, Answer::Found),
+            other => unreachable!("{other:?}"),
+        };
+        (answer, 0)
+    }
+
+    fn put(session: &mut Session, key: u64, pointer: u64, _: &mut u64) -> (State, u64) {
+        (session.put(key, pointer).unwrap(), 0)
+    }
+
+    fn renew(&self) -> bool {
+        Map::renew(self, 1_000_000).is_ok()
+    }
+
+    fn close(self) -> HashMap<u64, u64> {
+        Map::close(self).unwrap().iter().collect()
     }
 }
 
-// An operation that rests where another session has its page, while its thread does something else. Returns how often it rested.
-fn by_steps(session: Session, op: Op, random: &mut u64) -> (Session, Answer, u64) {
+impl Shared for tried::Map {
+    type Session = tried::Session;
+
+    fn session(&self) -> tried::Session {
+        tried::Map::session(self)
+    }
+
+    fn call(session: &mut tried::Session, op: Op, random: &mut u64) -> (Answer, u64) {
+        by_steps(session, |session| session.begin(op, 1), random)
+    }
+
+    fn put(session: &mut tried::Session, key: u64, pointer: u64, random: &mut u64) -> (State, u64) {
+        let (answer, rests) = by_steps(session, |session| session.begin_put(key, pointer, 1), random);
+        assert!(matches!(answer, Answer::Inserted | Answer::Replaced(_)), "{answer:?}");
+        (answer.pointer(), rests)
+    }
+
+    fn renew(&self) -> bool {
+        tried::Map::renew(self, 1_000_000)
+    }
+
+    fn close(self) -> HashMap<u64, u64> {
+        tried::Map::close(self).into_iter().collect()
+    }
+}
+
+// An operation that rests where another session has its page, while its thread does something else. It begins anew where the session's rows are
+// on their way back, and where the map is being renewed.
+fn by_steps(
+    session: &mut tried::Session,
+    begin: impl Fn(&mut tried::Session) -> Result<Option<Answer>, Code>,
+    random: &mut u64,
+) -> (Answer, u64) {
     let mut rests = 0;
-    let mut begun = begins(session, op);
+    let mut told = begin(session);
     loop {
-        match begun {
-            Begun::Ended(session, answer) => return (session, answer, rests),
-            Begun::Refused(_, error) => panic!("no put: {error}"),
-            Begun::Resting(unfinished) => {
+        told = match told {
+            Ok(Some(answer)) => return (answer, rests),
+            Ok(None) => {
                 rests += 1;
                 match next_random(random) % 4 {
                     0 => thread::yield_now(),
                     1 => thread::sleep(Duration::from_micros(20)),
                     _ => {}
                 }
-                begun = unfinished.advance(1 + (next_random(random) % 3) as u32);
+                session.advance(1 + (next_random(random) % 3) as u32)
             }
-        }
+            Err(code) => {
+                assert!(code == ROWS_BUSY || code == RENEWING, "{code}");
+                thread::yield_now();
+                begin(session)
+            }
+        };
     }
 }
 
-// One call, by what it answers: what the key was, and what it is then. Each operation is called as a whole, or by its steps.
-fn call_once(session: &mut Option<Session>, kind: u64, key: u64, pointer: u64, random: &mut u64) -> (State, State, u64) {
+// One call: what the key was by its answer, what it is then, and how often the call rested.
+fn call_once<M: Shared>(session: &mut M::Session, kind: u64, key: u64, pointer: u64, random: &mut u64) -> (State, State, u64) {
     let op = match kind % 4 {
+        _ if kind >= 8 => {
+            let (saw, rests) = M::put(session, key, pointer, random);
+            return (saw, Some(pointer), rests);
+        }
         0 => Op::Insert(key, pointer),
         1 => Op::Remove(key),
         2 => Op::Replace(key, pointer),
         _ => Op::Get(key),
     };
-    let whole = session.as_mut().unwrap();
-    let answer = match op {
-        _ if kind >= 8 => return (whole.put(key, pointer).unwrap(), Some(pointer), 0),
-        _ if kind >= 4 => {
-            let (ended, answer, rests) = by_steps(session.take().unwrap(), op, random);
-            *session = Some(ended);
-            let (saw, left) = told_by(op, answer);
-            return (saw, left, rests);
-        }
-        Op::Insert(..) => whole.insert(key, pointer).unwrap(),
-        Op::Remove(_) => whole.remove(key).unwrap(),
-        Op::Replace(..) => whole.replace(key, pointer).unwrap(),
-        Op::Get(_) => whole.get(key).map_or(Answer::Absent, Answer::Found),
-        other => unreachable!("{other:?}"),
-    };
+    let (answer, rests) = M::call(session, op, random);
     let (saw, left) = told_by(op, answer);
-    (saw, left, 0)
+    (saw, left, rests)
 }
 
 // A thread's calls, and how often an operation of them rested. The thread leaves the map now and then, and joins it again.
-fn calls_of(map: &Map, plan: Plan, thread: usize, start: Instant) -> (Vec<Call>, u64) {
+fn calls_of<M: Shared>(map: &M, plan: Plan, thread: usize, start: Instant) -> (Vec<Call>, u64) {
     let mut random = 0x9e37_79b9_7f4a_7c15 ^ ((thread as u64 + 1) << 32) ^ plan.keys;
     let mut session = None;
     let mut calls = Vec::with_capacity(plan.calls as usize);
@@ -188,12 +249,12 @@ fn calls_of(map: &Map, plan: Plan, thread: usize, start: Instant) -> (Vec<Call>,
         if number % 1_000 == 0 {
             session = None;
         }
-        session.get_or_insert_with(|| map.session().unwrap());
+        let session = session.get_or_insert_with(|| map.session());
         let key = next_random(&mut random) % plan.keys;
         let kind = next_random(&mut random) % 10;
         let pointer = ((thread as u64 + 1) << 40) | number;
         let begin = start.elapsed().as_nanos() as u64;
-        let (saw, left, rests) = call_once(&mut session, kind, key, pointer, &mut random);
+        let (saw, left, rests) = call_once::<M>(session, kind, key, pointer, &mut random);
         let end = start.elapsed().as_nanos() as u64;
         calls.push(Call { thread, begin, end, key, saw, left });
         rested += rests;
@@ -206,11 +267,11 @@ fn opening(plan: Plan) -> HashMap<u64, u64> {
     (0..plan.keys).step_by(2).map(|key| (key, key)).collect()
 }
 
-// What eight threads did at a map: their calls, how often an operation of theirs rested, and the index in the end.
+// What eight threads did at a map: their calls, how often an operation of theirs rested, and the entries in the end.
 struct Recorded {
     history: Vec<Call>,
     rests: u64,
-    index: Index,
+    entries: HashMap<u64, u64>,
 }
 
 // Room for all calls of a plan, with which a map needs no renewal.
@@ -220,19 +281,16 @@ fn room_for(plan: Plan) -> Room {
 }
 
 // Renews the map again and again until the others have ended, and returns how often it could.
-fn renewals_of(map: &Map, ended: &AtomicBool) -> u64 {
+fn renewals_of(map: &impl Shared, ended: &AtomicBool) -> u64 {
     let mut renewals = 0;
     while !ended.load(Ordering::Relaxed) {
-        renewals += u64::from(map.renew(1_000_000).is_ok());
+        renewals += u64::from(map.renew());
         thread::sleep(Duration::from_micros(100));
     }
     renewals
 }
 
-fn recorded(plan: Plan) -> Recorded {
-    let entries: Vec<(u64, u64)> = opening(plan).into_iter().collect();
-    let index = Index::from_entries(plan.fan, entries.iter().copied()).unwrap();
-    let map = if plan.renewed { Map::open(&index).unwrap() } else { Map::open_fixed(&index, room_for(plan)).unwrap() };
+fn recorded<M: Shared>(map: M, plan: Plan) -> Recorded {
     let start = Instant::now();
     let ended = AtomicBool::new(false);
     let mut history = Vec::new();
@@ -254,32 +312,49 @@ fn recorded(plan: Plan) -> Recorded {
         renewals = renewing.map_or(0, |renewing| renewing.join().unwrap());
     });
     assert_eq!(renewals > 5, plan.renewed, "{renewals} renewals");
-    let index = map.close().unwrap();
-    Recorded { history, rests, index }
+    Recorded { history, rests, entries: map.close() }
 }
 
-// Adds a look at each key after all others, at what the closed index has.
-fn with_looks_at(mut history: Vec<Call>, index: &Index, keys: u64) -> Vec<Call> {
+// Adds a look at each key after all others, at what the closed map has.
+fn with_looks_at(mut history: Vec<Call>, entries: &HashMap<u64, u64>, keys: u64) -> Vec<Call> {
     let last = history.iter().map(|call| call.end).max().unwrap_or(0);
     history.extend((0..keys).map(|key| {
-        let found = index.get(key);
+        let found = entries.get(&key).copied();
         Call { thread: 0, begin: last + 1, end: last + 2, key, saw: found, left: found }
     }));
     history
 }
 
 // Returns how often an operation rested.
-fn check(plan: Plan) -> u64 {
-    let Recorded { history, rests, index } = recorded(plan);
-    let history = with_looks_at(history, &index, plan.keys);
+fn explains<M: Shared>(map: M, plan: Plan) -> u64 {
+    let Recorded { history, rests, entries } = recorded(map, plan);
+    let history = with_looks_at(history, &entries, plan.keys);
     assert!(is_linearizable(&history, &opening(plan)), "{} keys, fan {}", plan.keys, plan.fan);
     rests
 }
 
+// A map of the crate.
+fn map_of(plan: Plan) -> Map {
+    let index = Index::from_entries(plan.fan, opening(plan)).unwrap();
+    if plan.renewed { Map::open(&index).unwrap() } else { Map::open_fixed(&index, room_for(plan)).unwrap() }
+}
+
+// One whose operations go by steps.
+fn map_by_steps(plan: Plan) -> tried::Map {
+    let mut entries: Vec<(u64, u64)> = opening(plan).into_iter().collect();
+    entries.sort_unstable();
+    tried::Map::open(plan.fan, &entries, (!plan.renewed).then(|| room_for(plan)))
+}
+
+// Makes a plan's calls at either map. Returns how often an operation rested.
+fn check(plan: Plan) -> u64 {
+    explains(map_of(plan), plan) + explains(map_by_steps(plan), plan)
+}
+
 // ---- a million calls
 
-// Of each thread, in a map that needs no renewal.
-const WHOLE: Plan = Plan { keys: 4, fan: 4, calls: 21_000, renewed: false };
+// Of each thread at either map, which needs no renewal: 1,008,000 in all, half of them by steps.
+const WHOLE: Plan = Plan { keys: 4, fan: 4, calls: 10_500, renewed: false };
 
 #[test]
 fn histories_at_4_keys() {
@@ -304,7 +379,7 @@ fn histories_at_100_000_keys() {
 #[test]
 fn histories_through_renewals() {
     for (keys, fan) in [(4, 4), (64, 8), (1_000, 5)] {
-        check(Plan { keys, fan, renewed: true, ..WHOLE });
+        check(Plan { keys, fan, calls: 21_000, renewed: true });
     }
 }
 
@@ -340,7 +415,7 @@ const PLANTED: Plan = Plan { keys: 4, fan: 4, calls: 500, renewed: false };
 
 #[test]
 fn a_planted_stale_read_is_found() {
-    let mut history = recorded(PLANTED).history;
+    let mut history = recorded(map_by_steps(PLANTED), PLANTED).history;
     assert!(is_linearizable(&history, &opening(PLANTED)));
     // a look, and a pointer that was replaced or removed before the look began
     let (look, stale) = (0..history.len())
@@ -358,7 +433,7 @@ fn a_planted_stale_read_is_found() {
 
 #[test]
 fn a_planted_lost_update_is_found() {
-    let mut history = recorded(PLANTED).history;
+    let mut history = recorded(map_by_steps(PLANTED), PLANTED).history;
     // one call has replaced a pointer, another that of the first; now both say that they have replaced the same
     let (later, lost) = history
         .iter()

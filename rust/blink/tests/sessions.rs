@@ -1,6 +1,6 @@
 //! A map and its sessions: one thread beside a plain map, two threads, refusals, and a map that is full.
 
-use blink::{Answer, Begun, Error, Index, Left, Map, Op, Room, Session, Reserve};
+use blink::{Answer, Error, Index, Left, Map, Room, Session, Reserve};
 use std::collections::BTreeMap;
 use std::thread::{self, JoinHandle};
 
@@ -319,75 +319,6 @@ fn a_session_tells_which_rows_have_come_back() {
     assert_eq!((session.reserve(), map.room().unwrap()), (reserve(0, 36, 56, 8), Left { pages: 0, rows: 100 }));
     drop(session);
     assert_eq!(map.session().unwrap().reserve(), reserve(0, 36, 56, 8));
-}
-
-#[test]
-fn an_operation_that_begins_ends_where_nobody_has_its_page() {
-    let index = Index::from_entries(4, [(1, 10)]).unwrap();
-    let map = map_over(&index, 22, 44, 1);
-    let cases = [
-        (Op::Get(1), Answer::Found(10)),
-        (Op::Insert(2, 20), Answer::Inserted),
-        (Op::Replace(2, 21), Answer::Replaced(20)),
-        (Op::Remove(1), Answer::Removed(10)),
-        (Op::Get(1), Answer::Absent),
-    ];
-    let mut session = map.session().unwrap();
-    for (op, expected) in cases {
-        match session.begin(op, 0) {
-            Ok(Begun::Ended(ended, answer)) => {
-                assert_eq!(answer, expected, "{op:?}");
-                session = ended;
-            }
-            begun => panic!("{op:?}: {begun:?}"),
-        }
-    }
-    // the session has drawn all rows, and another has none
-    drop(session);
-    assert!(map.close().unwrap().iter().eq([(2, 21)]));
-    let map = map_over(&index, 22, 44, 2);
-    let (mut session, other) = (map.session().unwrap(), map.session().unwrap());
-    assert_eq!(session.insert(2, 20), Ok(Answer::Inserted));
-    let (other, error) = other.begin(Op::Insert(3, 30), 1).unwrap_err();
-    assert_eq!(error, Error::Full);
-    drop((session, other));
-    assert!(map.close().unwrap().iter().eq([(1, 10), (2, 20)]));
-}
-
-// Replaces one key by steps, until an operation rests or that many have ended. One that rests is dropped.
-fn drops_one_that_rests(map: &Map, most: u64) {
-    let mut session = map.session().unwrap();
-    let mut pointer = 0;
-    while pointer < most {
-        match session.begin(Op::Replace(1, pointer), 1) {
-            Ok(Begun::Ended(ended, _)) => {
-                session = ended;
-                pointer += 1;
-            }
-            Ok(Begun::Resting(unfinished)) => {
-                drop(unfinished);
-                return;
-            }
-            // a thread is held up inside a call, so no row has come back
-            Err((free, Error::RowsBusy)) => {
-                session = free;
-                thread::yield_now();
-            }
-            Ok(Begun::Refused(_, error)) | Err((_, error)) => panic!("{error}"),
-        }
-    }
-}
-
-#[test]
-fn a_map_with_a_dropped_operation_closes() {
-    let index = Index::from_entries(4, [(1, 10)]).unwrap();
-    let map = map_over(&index, 0, 400_000, 4);
-    thread::scope(|scope| {
-        (0..4).for_each(|_| _ = scope.spawn(|| drops_one_that_rests(&map, 90_000)));
-    });
-    // the key has a pointer that a thread stored, or began to store
-    let closed = map.close().unwrap();
-    assert!(closed.len() == 1 && closed.get(1).is_some_and(|pointer| pointer < 90_000));
 }
 
 #[test]

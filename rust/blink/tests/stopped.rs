@@ -3,13 +3,16 @@
 #![cfg(all(target_os = "linux", target_arch = "x86_64", target_env = "gnu"))]
 
 mod stepped;
+mod tried;
 
-use blink::{Answer, Begun, Error, Index, Left, Map, Op, Room, Session};
+use blink::{Answer, Op, Reserve, Room};
 use std::cell::Cell;
 use std::ffi::{c_int, c_void};
 use std::sync::atomic::{AtomicBool, AtomicU64, Ordering::SeqCst};
 use std::thread;
 use stepped::{by_instruction, handle};
+use tried::sys::{RENEWING, ROWS_BUSY};
+use tried::{Map, Session};
 
 // The rows of the map's room.
 const ROWS: u32 = 100;
@@ -24,37 +27,33 @@ const QUOTA: u32 = 44;
 const FIRST: u64 = 1_000;
 
 fn map_of_four(sessions: u32) -> Map {
-    let index = Index::from_sorted(4, [(1, FIRST), (2, 20), (3, 30), (4, 40)]).unwrap();
-    Map::open_fixed(&index, Room { pages: 0, rows: ROWS, sessions }).unwrap()
+    Map::open(4, &[(1, FIRST), (2, 20), (3, 30), (4, 40)], Some(Room { pages: 0, rows: ROWS, sessions }))
 }
 
 // A session that gives key 1 the next greater pointer each time.
 struct Writer {
-    session: Option<Session>,
+    session: Session,
     pointer: u64,
 }
 
 impl Writer {
     fn new(map: &Map) -> Writer {
-        Writer { session: Some(map.session().unwrap()), pointer: FIRST }
+        Writer { session: map.session(), pointer: FIRST }
     }
 
     // Replaces the pointer, and returns whether there was a row for it. No other session has the page.
     fn replaces(&mut self) -> bool {
-        let session = self.session.take().unwrap();
-        match session.begin(Op::Replace(1, self.pointer + 1), 1) {
-            Ok(Begun::Ended(session, answer)) => {
+        match self.session.begin(Op::Replace(1, self.pointer + 1), 1) {
+            Ok(Some(answer)) => {
                 assert_eq!(answer, Answer::Replaced(self.pointer));
                 self.pointer += 1;
-                self.session = Some(session);
                 true
             }
-            Err((session, error)) => {
-                assert_eq!(error, Error::RowsBusy);
-                self.session = Some(session);
+            Err(code) => {
+                assert_eq!(code, ROWS_BUSY);
                 false
             }
-            Ok(begun) => panic!("nobody has the page: {begun:?}"),
+            Ok(None) => panic!("nobody has the page"),
         }
     }
 
@@ -71,15 +70,15 @@ impl Writer {
 fn stops_after(instructions: u32) -> Option<bool> {
     let map = map_of_four(3);
     let mut writer = Writer::new(&map);
-    let mut reader = map.session().unwrap();
-    let mut late = map.session().unwrap();
+    let mut reader = map.session();
+    let mut late = map.session();
     let (mut passed, mut replaced) = (0, None);
     let found = by_instruction(
         || reader.get(1),
         || {
             if passed == instructions {
                 replaced = Some(writer.replaces_at_most(3 * ROWS * PER_ROW));
-                assert_eq!(late.replace(2, 21), Ok(Answer::Replaced(20)));
+                assert_eq!(late.begin(Op::Replace(2, 21), 100), Ok(Some(Answer::Replaced(20))));
             }
             passed += 1;
             replaced.is_none()
@@ -93,13 +92,13 @@ fn stops_after(instructions: u32) -> Option<bool> {
     assert!(found == FIRST || found == FIRST + u64::from(replaced), "{found} after {instructions} instructions");
     // Of three sessions one draws a sixth of what the pool has, of 100 rows 16, and the late one 14 of the other 84. The writer draws
     // again only while its rows don't come back, up to its quota of 44; then the late one draws 9 of 56.
-    assert_eq!(map.room().unwrap(), Left { pages: 0, rows: if is_held { 47 } else { 70 } });
+    assert_eq!(map.room(), (0, if is_held { 47 } else { 70 }));
     // The reader has gone on, so no row is held back any more.
     assert_eq!(writer.replaces_at_most(5 * ROWS * PER_ROW), 5 * ROWS * PER_ROW);
     assert_eq!(reader.get(1), Some(writer.pointer));
     drop((writer, reader, late));
     let last = FIRST + u64::from(replaced + 5 * ROWS * PER_ROW);
-    assert!(map.close().unwrap().iter().eq([(1, last), (2, 21), (3, 30), (4, 40)]));
+    assert_eq!(map.close(), [(1, last), (2, 21), (3, 30), (4, 40)]);
     Some(!is_held)
 }
 
@@ -126,7 +125,7 @@ const CALLS: usize = 100;
 fn rows_come_back_though_the_reader_is_always_inside_a_call() {
     let map = map_of_four(2);
     let mut writer = Writer::new(&map);
-    let mut reader = map.session().unwrap();
+    let mut reader = map.session();
     let passed = Cell::new(0u32);
     let pass = || {
         passed.set(passed.get() + 1);
@@ -155,7 +154,7 @@ fn rows_come_back_though_the_reader_is_always_inside_a_call() {
     let last = FIRST + replaced.iter().map(|count| u64::from(*count)).sum::<u64>();
     assert_eq!(reader.get(1), Some(last));
     drop((writer, reader));
-    assert!(map.close().unwrap().iter().eq([(1, last), (2, 20), (3, 30), (4, 40)]));
+    assert_eq!(map.close(), [(1, last), (2, 20), (3, 30), (4, 40)]);
 }
 
 // ---- a change that is stopped at each of its instructions
@@ -166,7 +165,7 @@ fn is_made_or_not_behind(others: u32) {
     let mut writer = Writer::new(&map);
     assert_eq!(writer.replaces_at_most(others), others);
     let first = writer.pointer;
-    let mut reader = map.session().unwrap();
+    let mut reader = map.session();
     let (mut instructions, mut shown) = (0u32, Vec::with_capacity(2));
     let replaced = by_instruction(
         || writer.replaces(),
@@ -184,7 +183,7 @@ fn is_made_or_not_behind(others: u32) {
     // The change is seen at once, and stays.
     assert_eq!(shown, [Some(first), Some(first + 1)]);
     drop((writer, reader));
-    assert!(map.close().unwrap().iter().eq([(1, first + 1), (2, 20), (3, 30), (4, 40)]));
+    assert_eq!(map.close(), [(1, first + 1), (2, 20), (3, 30), (4, 40)]);
 }
 
 #[test]
@@ -194,29 +193,17 @@ fn a_change_that_is_stopped_anywhere_is_made_or_not() {
     is_made_or_not_behind(PER_ROW - 1);
 }
 
-// Goes on with a change until it has ended.
-fn end(mut begun: Begun) -> Answer {
-    loop {
-        match begun {
-            Begun::Ended(_, answer) => return answer,
-            Begun::Refused(_, error) => panic!("no put: {error}"),
-            Begun::Resting(unfinished) => begun = unfinished.advance(1),
-        }
-    }
-}
-
 // Begins a change of the same leaf after so many instructions of a replacement, and returns whether it had to wait; none, if the
 // replacement has fewer.
 fn another_waits_after(instructions: u32) -> Option<bool> {
     let map = map_of_four(2);
-    let mut writer = Writer::new(&map);
-    let mut free = Some(map.session().unwrap());
+    let (mut writer, mut session) = (Writer::new(&map), map.session());
     let (mut passed, mut begun) = (0, None);
     let replaced = by_instruction(
         || writer.replaces(),
         || {
             if passed == instructions {
-                begun = free.take().map(|session| session.begin(Op::Replace(2, 21), 1));
+                begun = Some(session.begin(Op::Replace(2, 21), 1));
             }
             passed += 1;
             begun.is_none()
@@ -224,11 +211,10 @@ fn another_waits_after(instructions: u32) -> Option<bool> {
     );
     assert!(replaced);
     let begun = begun?.unwrap();
-    let waited = matches!(begun, Begun::Resting(_));
-    assert_eq!(end(begun), Answer::Replaced(20), "after {instructions} instructions");
-    drop((writer, free));
-    assert!(map.close().unwrap().iter().eq([(1, FIRST + 1), (2, 21), (3, 30), (4, 40)]));
-    Some(waited)
+    assert_eq!(session.end(begun), Answer::Replaced(20), "after {instructions} instructions");
+    drop((writer, session));
+    assert_eq!(map.close(), [(1, FIRST + 1), (2, 21), (3, 30), (4, 40)]);
+    Some(begun.is_none())
 }
 
 #[test]
@@ -238,36 +224,42 @@ fn another_change_waits_only_while_a_stopped_one_has_the_leaf() {
     assert_eq!((waits.first(), waits.last(), turns), (Some(&false), Some(&false), 2));
 }
 
-// Begins a change of the same leaf after so many instructions of a replacement, and drops it if it has to wait. It can't be ended then,
-// since the stopped replacement has the leaf. Returns whether it was dropped; none, if the replacement has fewer instructions.
-fn another_is_dropped_after(instructions: u32) -> Option<bool> {
-    let map = map_of_four(2);
-    let mut writer = Writer::new(&map);
-    let mut free = Some(map.session().unwrap());
-    let (mut passed, mut dropped) = (0, None);
+// Begins a change of the same leaf after so many instructions of a replacement, and frees its session then. If the change rests, it can't be ended,
+// since the stopped replacement has the leaf: the session is lost, with its change, and the map doesn't close any more. Nothing else is lost.
+// Returns whether that was so; none, if the replacement has fewer instructions.
+fn another_is_lost_after(instructions: u32) -> Option<bool> {
+    let map = map_of_four(3);
+    let (mut writer, mut reader, mut freed) = (Writer::new(&map), map.session(), Some(map.session()));
+    let (mut passed, mut lost) = (0, None);
     let replaced = by_instruction(
         || writer.replaces(),
         || {
             if passed == instructions {
-                let begun = free.take().map(|session| session.begin(Op::Replace(2, 21), 1).unwrap());
-                dropped = begun.map(|begun| matches!(begun, Begun::Resting(_)));
+                lost = freed.take().map(|mut session| session.begin(Op::Replace(2, 21), 1).unwrap().is_none());
             }
             passed += 1;
-            dropped.is_none()
+            lost.is_none()
         },
     );
     assert!(replaced);
-    let dropped = dropped?;
-    drop((writer, free));
-    // The change of key 2 is made, at the latest by the close.
-    assert!(map.close().unwrap().iter().eq([(1, FIRST + 1), (2, 21), (3, 30), (4, 40)]));
-    Some(dropped)
+    let lost = lost?;
+    let left = [(1, FIRST + 1), (2, if lost { 20 } else { 21 }), (3, 30), (4, 40)];
+    assert!(left.iter().all(|&(key, pointer)| reader.get(key) == Some(pointer)), "after {instructions} instructions");
+    drop((writer, reader));
+    for _ in 0..2 {
+        let closed = map.try_close();
+        assert_eq!(closed.as_deref(), if lost { Err(&RENEWING) } else { Ok(&left[..]) }, "after {instructions} instructions");
+        if !lost {
+            break;
+        }
+    }
+    Some(lost)
 }
 
 #[test]
-fn a_map_closes_with_all_its_entries_though_an_operation_was_dropped() {
-    let dropped: Vec<bool> = (0..100_000).step_by(31).map_while(another_is_dropped_after).collect();
-    assert!(dropped.contains(&true) && dropped.contains(&false), "{dropped:?}");
+fn a_session_that_is_freed_under_way_is_lost_alone() {
+    let lost: Vec<bool> = (0..100_000).step_by(31).map_while(another_is_lost_after).collect();
+    assert!(lost.contains(&true) && lost.contains(&false), "{lost:?}");
 }
 
 // ---- a reader in a thread of its own that is stopped by a signal
@@ -386,7 +378,7 @@ fn a_reader_that_sleeps_in_a_call_holds_rows_back_until_it_wakes() {
     handle(SIGUSR1, stay);
     let map = map_of_four(2);
     let mut writer = Writer::new(&map);
-    let session = map.session().unwrap();
+    let session = map.session();
     let told = Told {
         thread: AtomicU64::new(0),
         inside: AtomicBool::new(false),
@@ -404,5 +396,5 @@ fn a_reader_that_sleeps_in_a_call_holds_rows_back_until_it_wakes() {
     let last = writer.pointer;
     assert!(last >= FIRST + u64::from(STOPS) * 5 * u64::from(ROWS * PER_ROW));
     drop(writer);
-    assert!(map.close().unwrap().iter().eq([(1, last), (2, 20), (3, 30), (4, 40)]));
+    assert_eq!(map.close(), [(1, last), (2, 20), (3, 30), (4, 40)]);
 }

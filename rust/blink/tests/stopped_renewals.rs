@@ -4,16 +4,15 @@
 #![cfg(all(target_os = "linux", target_arch = "x86_64", target_env = "gnu"))]
 
 mod stepped;
-#[allow(dead_code)]
-#[path = "../src/sys.rs"]
-mod sys;
+mod tried;
 
-use blink::{Answer, Begun, Error, Index, Map, Op, Reserve, Session};
+use blink::{Answer, Error, Index, Map, Op, Reserve, Session};
 use std::fmt::Debug;
 use std::sync::atomic::{AtomicU32, Ordering};
 use std::{ptr, thread};
 use stepped::by_instruction;
-use sys::*;
+use tried::sys::*;
+use tried::{filled, DONE};
 
 const ENTRIES: [(u64, u64); 4] = [(1, 10), (2, 20), (3, 30), (4, 40)];
 
@@ -81,33 +80,29 @@ fn a_map_is_renewed_beside_an_insertion_that_is_stopped_anywhere() {
 // Begins a replacement after so many instructions of another one of the key. Returns whether it rests then; none, if the first has fewer. Both
 // are made, one behind the other, and the second session has seen both.
 fn rests_after(instructions: u32) -> Option<bool> {
-    let map = Map::open(&Index::from_sorted(4, ENTRIES).unwrap()).unwrap();
-    let (mut session, mut other) = (map.session().unwrap(), Some(map.session().unwrap()));
+    let map = tried::Map::open(4, &ENTRIES, None);
+    let (mut session, mut other) = (map.session(), map.session());
     let (mut passed, mut begun) = (0, None);
     let answer = by_instruction(
-        || session.replace(2, 21),
+        || session.begin(Op::Replace(2, 21), 1),
         || {
             if passed == instructions {
-                begun = other.take().map(|other| other.begin(Op::Replace(2, 22), 1));
+                begun = Some(other.begin(Op::Replace(2, 22), 1));
             }
             passed += 1;
             begun.is_none()
         },
     );
-    let (rests, mut other, replaced) = match begun?.map_err(|(_, error)| error).unwrap() {
-        Begun::Ended(other, Answer::Replaced(replaced)) => (false, other, replaced),
-        Begun::Resting(unfinished) => match unfinished.advance(1) {
-            Begun::Ended(other, Answer::Replaced(replaced)) => (true, other, replaced),
-            it => panic!("it waits for nobody any more: {it:?}"),
-        },
-        it => panic!("key 2 is there: {it:?}"),
-    };
+    let begun = begun?.unwrap();
+    // One that rests waits for nobody any more.
+    let ended = if begun.is_none() { other.advance(1).unwrap() } else { begun };
+    let Some(Answer::Replaced(replaced)) = ended else { panic!("key 2 is there, and nobody has its page: {ended:?}") };
     let (first, last) = if replaced == 21 { (20, 22) } else { (22, 21) };
-    assert_eq!((answer, session.get(2)), (Ok(Answer::Replaced(first)), Some(last)), "after {instructions} instructions");
+    assert_eq!((answer, session.get(2)), (Ok(Some(Answer::Replaced(first))), Some(last)), "after {instructions} instructions");
     assert!((replaced == 20 || replaced == 21) && matches!(other.get(2), Some(21 | 22)));
     drop((session, other));
-    assert_eq!(map.close().unwrap().get(2), Some(last));
-    Some(rests)
+    assert_eq!(map.close()[1], (2, last));
+    Some(begun.is_none())
 }
 
 #[test]
@@ -118,16 +113,7 @@ fn an_operation_rests_while_a_change_that_is_stopped_has_its_page() {
 
 // ---- a renewal that is stopped again and again
 
-// The calls of C, since those of Rust wait until the map is renewed.
-const DONE: Code = 0;
-const RENEWING: Code = 109;
-
-// What a call that fills an empty handle gives.
-fn filled(fill: impl FnOnce(*mut Handle) -> Code) -> Handle {
-    let mut handle = Handle::EMPTY;
-    assert_eq!(fill(&mut handle), DONE);
-    handle
-}
+// The calls are those that wait for nobody, since a session of the crate waits until the map is renewed.
 
 // The same handle once more, for a thread that alone uses it.
 fn lent(handle: &Handle) -> Handle {
@@ -162,7 +148,7 @@ impl Caller {
     fn calls(&mut self) {
         let mut answer = RawAnswer::NONE;
         // SAFETY: the handle is full and this caller's own.
-        let found = match unsafe { blink_session_find(&mut self.session, 1, 1, &mut answer) } {
+        let found = match unsafe { blink_session_get_try(&mut self.session, 1, 1, &mut answer) } {
             DONE => {
                 assert_eq!(answer.pointer, 10);
                 true
@@ -174,7 +160,7 @@ impl Caller {
             }
         };
         // SAFETY: as before.
-        match unsafe { blink_session_replace(&mut self.session, 2, self.pointer + 1, 1, &mut answer) } {
+        match unsafe { blink_session_replace_try(&mut self.session, 2, self.pointer + 1, 1, &mut answer) } {
             DONE => {
                 assert_eq!(answer.pointer, self.pointer);
                 self.pointer += 1;
@@ -195,12 +181,12 @@ impl Caller {
         let mut scanned = RawScanned { filled: 5, more: 6, next: 7 };
         let mut taken = RawTaken { taken: 5, there: 6 };
         let into = entries.as_mut_ptr();
-        for scan in [blink_session_scan, blink_session_scan_back] {
+        for scan in [blink_session_scan_try, blink_session_scan_back_try] {
             // SAFETY: the handle is full and this caller's own; the array has four places.
             assert_eq!(unsafe { scan(&mut self.session, 0, u64::MAX, 1, into, 4, &mut scanned) }, RENEWING);
         }
         // SAFETY: as before.
-        let code = unsafe { blink_session_snapshot(&mut self.session, 0, u64::MAX, 1, into, 4, &mut taken) };
+        let code = unsafe { blink_session_snapshot_try(&mut self.session, 0, u64::MAX, 1, into, 4, &mut taken) };
         assert_eq!((code, entries.map(<(u64, u64)>::from)), (RENEWING, [(0, 0); 4]));
         assert_eq!((scanned.filled, scanned.more, scanned.next, taken.taken, taken.there), (5, 6, 7, 5, 6));
     }
@@ -208,7 +194,7 @@ impl Caller {
     // Where a change is refused, so are a hold and another renewal.
     fn nobody_else_renews(&mut self) {
         // SAFETY: the handles are full and this caller's own.
-        let codes = unsafe { (blink_session_hold(&mut self.session, 1), blink_map_renew(&mut self.map, 1)) };
+        let codes = unsafe { (blink_session_hold_try(&mut self.session, 1), blink_map_renew(&mut self.map, 1)) };
         assert_eq!(codes, (RENEWING, RENEWING));
     }
 }
@@ -242,7 +228,7 @@ fn calls_beside_a_renewal(sessions: u32) -> Caller {
         assert_eq!(renewed, DONE);
         assert!(caller.refused > 100, "{} and {} calls beside {instructions} instructions", caller.answered, caller.refused);
         let mut answer = RawAnswer::NONE;
-        assert_eq!((blink_session_find(&mut caller.session, 2, 1, &mut answer), answer.pointer), (DONE, caller.pointer));
+        assert_eq!((blink_session_get_try(&mut caller.session, 2, 1, &mut answer), answer.pointer), (DONE, caller.pointer));
         idle.into_iter().for_each(|session| blink_session_free(session));
         blink_session_free(caller.session.take());
         blink_session_free(caller.other.take());
@@ -250,7 +236,7 @@ fn calls_beside_a_renewal(sessions: u32) -> Caller {
         let mut closed = filled(|out| blink_map_close(&mut map, out));
         for (key, expected) in [(1, 10), (2, caller.pointer), (3, 30), (4, 40)] {
             let mut found = 0;
-            assert!(blink_index_find(&mut closed, key, &mut found) && found == expected);
+            assert!(blink_index_get(&mut closed, key, &mut found) && found == expected);
         }
         blink_map_free(map);
         blink_index_free(closed);
@@ -329,9 +315,9 @@ impl Shared {
             let mut closed = filled(|out| blink_map_close(&mut map, out));
             let mut found = 0;
             for (key, expected) in ENTRIES {
-                assert!(blink_index_find(&mut closed, key, &mut found) && found == expected);
+                assert!(blink_index_get(&mut closed, key, &mut found) && found == expected);
             }
-            let is_there = blink_index_find(&mut closed, 5, &mut found) && found == 50;
+            let is_there = blink_index_get(&mut closed, 5, &mut found) && found == 50;
             blink_map_free(map);
             blink_index_free(closed);
             blink_index_free(index);
@@ -372,7 +358,7 @@ fn inserts_during_a_copy(fan: u8, instructions: u32, of_renewal: u32) -> bool {
         let mut answer = RawAnswer::NONE;
         let code = by_instruction(
             // SAFETY: this thread alone has the handles.
-            || unsafe { blink_session_insert(&mut session, 5, 50, 1, &mut answer) },
+            || unsafe { blink_session_insert_try(&mut session, 5, 50, 1, &mut answer) },
             || {
                 passed += 1;
                 if passed == instructions {
@@ -395,11 +381,11 @@ fn inserts_during_a_copy(fan: u8, instructions: u32, of_renewal: u32) -> bool {
 // Whether the map is being renewed, and searches go on: its entries are being copied. The handle is this thread's own.
 unsafe fn is_copied(session: &mut Handle) -> bool {
     let mut answer = RawAnswer::NONE;
-    if blink_session_find(session, 1, 1, &mut answer) != DONE {
+    if blink_session_get_try(session, 1, 1, &mut answer) != DONE {
         return false;
     }
     assert_eq!(answer.pointer, 10);
-    if blink_session_hold(session, 1) == RENEWING {
+    if blink_session_hold_try(session, 1) == RENEWING {
         return true;
     }
     blink_session_let_go(session);
@@ -414,7 +400,7 @@ fn is_taken_after(fan: u8, instructions: u32) -> bool {
     let (changing, renewing) = (&mut shared.changing, &mut shared.renewing);
     let code = by_instruction(
         // SAFETY: this thread alone has the handles.
-        || unsafe { blink_session_insert(changing, 5, 50, 1, &mut answer) },
+        || unsafe { blink_session_insert_try(changing, 5, 50, 1, &mut answer) },
         || {
             passed += 1;
             if passed == instructions {
@@ -453,7 +439,7 @@ fn copies_after(fan: u8) -> u32 {
             passed += 1;
             if passed % 101 == 0 {
                 // SAFETY: as before.
-                let found = unsafe { blink_session_find(looking, 1, 1, &mut answer) } == DONE;
+                let found = unsafe { blink_session_get_try(looking, 1, 1, &mut answer) } == DONE;
                 copies = (gathered && found).then_some(passed);
                 gathered |= !found;
             }

@@ -4,7 +4,7 @@ use Rattle.blink_owners.specs.MapCodes.{code_of}
 use Rattle.blink_owners.specs.Sessions.{IsAway, TellsStock}
 use Rattle.blink_c.proofs.Codes.{on_done, told_why}
 use Rattle.blink_c.proofs.CodesOfMaps.{not_done}
-use Rattle.blink_c.proofs.session.blink_session_reserve.Goals as goal
+use Rattle.blink_c.proofs.session.blink_session_reserve_try.Goals as goal
 
 pub returns-clause-told : goal.returns-clause-told
 returns-clause-told c zero =

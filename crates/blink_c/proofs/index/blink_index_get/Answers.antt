@@ -2,7 +2,7 @@ use Rattle.std.proofs.Common.{◌↔◌, IsSome, IsTrue, subst}
 use Rattle.blink_batch.specs.{pointer_of}
 use Rattle.blink_index.specs.{map_of}
 use Rattle.blink_store.specs.{PlainStore}
-use Rattle.blink_c.proofs.index.blink_index_find.Goals as goal
+use Rattle.blink_c.proofs.index.blink_index_get.Goals as goal
 
 pub returns-clause-found : goal.returns-clause-found
 returns-clause-found c =

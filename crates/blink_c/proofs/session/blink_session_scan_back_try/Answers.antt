@@ -4,7 +4,7 @@ use Rattle.blink_owners.specs.MapCodes.{code_of}
 use Rattle.blink_owners.specs.Sessions.{IsAway, ScansBack}
 use Rattle.blink_c.proofs.Codes.{on_done, told_why}
 use Rattle.blink_c.proofs.CodesOfMaps.{not_done}
-use Rattle.blink_c.proofs.session.blink_session_scan_back.Goals as goal
+use Rattle.blink_c.proofs.session.blink_session_scan_back_try.Goals as goal
 
 pub returns-clause-scanned : goal.returns-clause-scanned
 returns-clause-scanned c zero =

@@ -4,7 +4,7 @@ use Rattle.blink_owners.specs.MapCodes.{code_of}
 use Rattle.blink_owners.specs.Sessions.{IsTakeRefusal, Takes}
 use Rattle.blink_c.proofs.Codes.{on_done, told_why}
 use Rattle.blink_c.proofs.CodesOfMaps.{not_done}
-use Rattle.blink_c.proofs.session.blink_session_snapshot.Goals as goal
+use Rattle.blink_c.proofs.session.blink_session_snapshot_try.Goals as goal
 
 pub returns-clause-taken : goal.returns-clause-taken
 returns-clause-taken c zero =

@@ -3,7 +3,7 @@ use Rattle.blink_batch.specs.{pointer_of}
 use Rattle.blink_index.specs.{map_of}
 use Rattle.blink_store.specs.{PlainStore}
 use Rattle.blink_owners.specs.{index_in}
-use Rattle.blink_c.proofs.reader.blink_reader_find.Goals as goal
+use Rattle.blink_c.proofs.reader.blink_reader_get.Goals as goal
 
 pub returns-clause-found : goal.returns-clause-found
 returns-clause-found c =
