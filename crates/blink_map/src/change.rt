@@ -57,13 +57,16 @@ impl Member {
         if self.has_room(op) {
             return true;
         }
+        let (rows, pages) = needed_by(op);
+        self.draw_pages(live, pages);
+        if self.has_room(op) {
+            return true;
+        }
         self.recycle(live, 1);
         if self.has_room(op) {
             return true;
         }
-        let (rows, pages) = needed_by(op);
         self.draw_rows(live, rows);
-        self.draw_pages(live, pages);
         self.catch_up(live, op)
     }
 
