@@ -234,7 +234,7 @@ awk '
     }' crates/blink_owners/src/*.rt crates/blink_c/src/*.rt >>"$work/found"
 
 # Rooms: C, Rust and Python count the same for a session, page numbers for a draw and for an insertion's 22.
-drawn=$(sed -n 's/^pub(crate) const PAGE_CHUNK: u64 = \([0-9]*\);/\1/p' crates/blink_map/src/waiting.rt)
+drawn=$(sed -n 's/^pub(crate) const PAGE_CHUNK: u64 = \([0-9]*\);/\1/p' crates/blink_generation/src/waiting.rt)
 for it in include/blink.h rust/blink/src/map.rs python/blink.py; do
     counted=$(sed -n 's/.* + \([0-9]*\) \* .*sessions.*/\1/p' "$it" | sort -u | paste -s -d ' ' -)
     [ "$counted" = "300 $((drawn + 22))" ] || echo "$it: a room counts '$counted' for a session, not 300 rows and $((drawn + 22)) page numbers"

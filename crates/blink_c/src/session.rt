@@ -2,7 +2,7 @@
 ghost use Rattle.std.specs.Prelude.{◌≡◌, ◌≢◌};
 ghost use Rattle.blink_batch.specs.{FitsWords};
 ghost use Rattle.blink_batch.specs.declared.Op.TheVariants.{Delete, DeleteExact, Exchange, Insert, Replace};
-ghost use Rattle.blink_map.specs.{IsUpdate};
+ghost use Rattle.blink_generation.specs.{IsUpdate};
 ghost use Rattle.blink_owners.specs.Codes.{TellsWhy};
 ghost use Rattle.blink_owners.specs.MapCodes.{code_of};
 ghost use Rattle.blink_owners.specs.Sessions.{EndsFrom, Finds, IsAdvanceRefusal, IsAway, IsOwnSession, IsPutRefusal, IsTakeRefusal, KnowsSame, Puts, Scans, ScansBack, SeesMore, Takes, TellsStock, in_map};
@@ -10,7 +10,7 @@ ghost use Rattle.blink_c.specs.Changing.{ChangesMap};
 
 use crate::session_handle::SessionHandle;
 use blink_batch::{Entry, Op};
-use blink_map::FREE_TRIES;
+use blink_generation::FREE_TRIES;
 use blink_owners::map_refusal::code_of;
 use blink_owners::raw::{RawAnswer, RawScanned, RawStock, RawTaken};
 use blink_owners::refusal::Code;

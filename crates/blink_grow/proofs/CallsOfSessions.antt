@@ -5,8 +5,8 @@ use Rattle.blink_batch.specs.declared.Answer.{Answer}
 use Rattle.blink_batch.specs.declared.Op.{Op}
 use Rattle.blink_batch.specs.{FitsWords, answer_at, cell_after, key_of}
 use Rattle.blink_batch.specs.declared.Op.TheVariants.{Delete, DeleteExact, Exchange, Find, Insert, Replace}
-use Rattle.blink_map.specs.declared.error.Full.{Full}
-use Rattle.blink_map.specs.{AnswersInOrder, HasTried, IsAnswered, IsSameBesideRoom, IsSameMember, IsSessionOf, IsUnchangedBy, made_by, opening_of, place_of, seen_by}
+use Rattle.blink_generation.specs.declared.error.Full.{Full}
+use Rattle.blink_generation.specs.{AnswersInOrder, HasTried, IsAnswered, IsSameBesideRoom, IsSameMember, IsSessionOf, IsUnchangedBy, made_by, opening_of, place_of, seen_by}
 use mathlib.Core.List.{IsPrefix}
 use lib.ListN.{get_elem?}
 use Rattle.std.specs.Arc.{arc_value}
@@ -17,8 +17,8 @@ use Rattle.blink_live.specs.{HaveAuthors, IsReport, IsReportBack, IsSnapshot, St
 use Rattle.blink_live.specs.declared.view.Change.{Change}
 use Rattle.blink_live.specs.declared.view.Plan.{Plan}
 use Rattle.blink_live.proofs.Offered.{after-append, made_at-append, prefix_of_prefix}
-use Rattle.blink_map.specs.declared.map.Map.{Map}
-use Rattle.blink_map.specs.declared.map.Session.{Session as MapSession}
+use Rattle.blink_generation.specs.declared.map.Map.{Map}
+use Rattle.blink_generation.specs.declared.map.Session.{Session as MapSession}
 use Rattle.blink_grow.specs.declared.slots.Current.{Current}
 use Rattle.blink_grow.specs.declared.slots.Generation.{Generation}
 use Rattle.blink_grow.specs.declared.slots.Known.{Known}

@@ -9,8 +9,8 @@ use Rattle.blink_batch.specs.{pointer_of}
 use Rattle.blink_live.specs.declared.view.Change.{Change}
 use Rattle.blink_live.specs.{after, made_at}
 use Rattle.blink_live.proofs.Offered.{prefix_of_prefix}
-use Rattle.blink_map.specs.declared.map.Map.{Map}
-use Rattle.blink_map.specs.{made_by, opening_of as opening_of_map, place_of, seen_by}
+use Rattle.blink_generation.specs.declared.map.Map.{Map}
+use Rattle.blink_generation.specs.{made_by, opening_of as opening_of_map, place_of, seen_by}
 use Rattle.blink_grow.specs.declared.growing.GrowingMap.{GrowingMap}
 use Rattle.blink_grow.specs.declared.slots.Current.{Current}
 use Rattle.blink_grow.specs.declared.slots.SlotView.{SlotView}

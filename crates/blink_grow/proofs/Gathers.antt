@@ -10,7 +10,7 @@ use Rattle.blink_batch.specs.declared.Entry.{Entry}
 use Rattle.blink_live.specs.declared.view.Change.{Change}
 use Rattle.blink_live.specs.{made_at}
 use Rattle.blink_live.proofs.Offered.{prefix_of_prefix}
-use Rattle.blink_map.specs.{made_by, seen_by}
+use Rattle.blink_generation.specs.{made_by, seen_by}
 use Rattle.blink_grow.specs.declared.growing.GrowingMap.{GrowingMap}
 use Rattle.blink_grow.specs.declared.slots.Current.{Current}
 use Rattle.blink_grow.specs.declared.slots.Generation.{Generation}

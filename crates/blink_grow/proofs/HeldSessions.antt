@@ -16,8 +16,8 @@ use Rattle.blink_batch.specs.{answer_at, key_of, pointer_of}
 use Rattle.blink_live.specs.declared.view.Change.{Change}
 use Rattle.blink_live.specs.{HaveAuthors, IsReport, IsReportBack, IsSnapshot, after, changes_made, made_at}
 use Rattle.blink_live.proofs.Offered.{prefix_of_prefix}
-use Rattle.blink_map.specs.declared.map.Session.{Session as MapSession}
-use Rattle.blink_map.specs.{AnswersAsSeen, AnswersInOrder, IsSameMember, made_by, opening_of, place_of, seen_by}
+use Rattle.blink_generation.specs.declared.map.Session.{Session as MapSession}
+use Rattle.blink_generation.specs.{AnswersAsSeen, AnswersInOrder, IsSameMember, made_by, opening_of, place_of, seen_by}
 use Rattle.blink_grow.specs.declared.slots.Current.{Current}
 use Rattle.blink_grow.specs.declared.slots.Generation.{Generation}
 use Rattle.blink_grow.specs.declared.slots.Known.{Known}

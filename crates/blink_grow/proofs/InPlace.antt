@@ -9,9 +9,9 @@ use Rattle.blink_batch.specs.declared.Entry.{Entry}
 use Rattle.blink_batch.specs.declared.Op.{Op}
 use Rattle.blink_batch.specs.{key_of, pointer_of}
 use Rattle.blink_live.specs.{IsReport, IsReportBack, IsSnapshot, after}
-use Rattle.blink_map.specs.declared.map.Map.{Map}
-use Rattle.blink_map.specs.declared.map.Session.{Session as MapSession}
-use Rattle.blink_map.specs.{AnswersInOrder as AnswersInMap, IsSameBesideSeen as SeesMoreInMap, IsSessionOf as IsSessionIn, made_by, opening_of, seen_by}
+use Rattle.blink_generation.specs.declared.map.Map.{Map}
+use Rattle.blink_generation.specs.declared.map.Session.{Session as MapSession}
+use Rattle.blink_generation.specs.{AnswersInOrder as AnswersInMap, IsSameBesideSeen as SeesMoreInMap, IsSessionOf as IsSessionIn, made_by, opening_of, seen_by}
 use Rattle.blink_grow.specs.declared.growing.Session.{Session}
 use Rattle.blink_grow.specs.declared.slots.Current.{Current}
 use Rattle.blink_grow.specs.declared.slots.Known.{Known}

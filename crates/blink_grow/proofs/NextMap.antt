@@ -10,9 +10,9 @@ use Rattle.blink_batch.specs.{pointer_of}
 use Rattle.blink_live.specs.declared.view.Change.{Change}
 use Rattle.blink_live.specs.{after, made_at}
 use Rattle.blink_live.proofs.Offered.{made_at-append, made_between, prefix_of_prefix}
-use Rattle.blink_map.specs.declared.map.Map.{Map}
-use Rattle.blink_map.specs.declared.map.Session.{Session as MapSession}
-use Rattle.blink_map.specs.{IsSameBesideSeen, IsSessionOf, made_by, opening_of as opening_of_map, place_of, seen_by}
+use Rattle.blink_generation.specs.declared.map.Map.{Map}
+use Rattle.blink_generation.specs.declared.map.Session.{Session as MapSession}
+use Rattle.blink_generation.specs.{IsSameBesideSeen, IsSessionOf, made_by, opening_of as opening_of_map, place_of, seen_by}
 use Rattle.blink_grow.specs.declared.growing.GrowingMap.{GrowingMap}
 use Rattle.blink_grow.specs.declared.slots.Current.{Current}
 use Rattle.blink_grow.specs.declared.slots.Generation.{Generation}

@@ -10,9 +10,9 @@ use Rattle.std.proofs.lemmas.Bool.{cases_lt}
 use Rattle.std.specs.Arc.{arc_value}
 use Rattle.atomic_table.proofs.Lists.{at_last, at_longer}
 use Rattle.blink_batch.specs.declared.Entry.{Entry}
-use Rattle.blink_map.specs.declared.map.Map.{Map}
-use Rattle.blink_map.specs.declared.map.Session.{Session as MapSession}
-use Rattle.blink_map.specs.{AreFirstSessions as AreFirstInMap}
+use Rattle.blink_generation.specs.declared.map.Map.{Map}
+use Rattle.blink_generation.specs.declared.map.Session.{Session as MapSession}
+use Rattle.blink_generation.specs.{AreFirstSessions as AreFirstInMap}
 use Rattle.blink_grow.specs.declared.growing.GrowingMap.{GrowingMap}
 use Rattle.blink_grow.specs.declared.growing.Session.{Session}
 use Rattle.blink_grow.specs.declared.slots.Current.{Current}

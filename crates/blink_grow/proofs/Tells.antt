@@ -10,8 +10,8 @@ use Rattle.blink_batch.specs.declared.Entry.{Entry}
 use Rattle.blink_live.specs.declared.view.Change.{Change}
 use Rattle.blink_live.specs.{HaveAuthors, made_at}
 use Rattle.blink_live.proofs.Offered.{prefix_of_prefix}
-use Rattle.blink_map.specs.declared.map.Map.{Map}
-use Rattle.blink_map.specs.{IsSessionOf, seen_by}
+use Rattle.blink_generation.specs.declared.map.Map.{Map}
+use Rattle.blink_generation.specs.{IsSessionOf, seen_by}
 use Rattle.blink_grow.specs.declared.slots.Current.{Current}
 use Rattle.blink_grow.specs.declared.slots.Generation.{Generation}
 use Rattle.blink_grow.specs.declared.slots.Known.{Known}

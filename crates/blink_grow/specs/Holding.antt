@@ -8,8 +8,8 @@ use Rattle.blink_batch.specs.declared.Op.{Op}
 use Rattle.blink_batch.specs.{answer_at, key_of, pointer_of}
 use Rattle.blink_live.specs.declared.view.Change.{Change}
 use Rattle.blink_live.specs.{after, changes_made}
-use Rattle.blink_map.specs.declared.stock.Stock.{Stock}
-use Rattle.blink_map.specs.{stock_of}
+use Rattle.blink_generation.specs.declared.stock.Stock.{Stock}
+use Rattle.blink_generation.specs.{stock_of}
 use Rattle.blink_grow.specs.declared.growing.GrowingMap.{GrowingMap}
 use Rattle.blink_grow.specs.declared.growing.Session.{Session}
 use Rattle.blink_grow.specs.declared.held.Held.{Held}

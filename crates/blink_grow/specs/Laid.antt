@@ -3,9 +3,9 @@ use Rattle.std.specs.Prelude.{◌≡◌, ℕ, zero, suc, ◌<◌, Option, Some, 
 use mathlib.Core.Option.{some}
 use lib.ListN.{get_elem?}
 use Rattle.std.specs.Arc.{arc_value}
-use Rattle.blink_map.specs.declared.map.Map.{Map}
-use Rattle.blink_map.specs.declared.map.Session.{Session}
-use Rattle.blink_map.specs.{IsSessionOf, made_by, place_of, seen_by}
+use Rattle.blink_generation.specs.declared.map.Map.{Map}
+use Rattle.blink_generation.specs.declared.map.Session.{Session}
+use Rattle.blink_generation.specs.{IsSessionOf, made_by, place_of, seen_by}
 use Rattle.blink_grow.specs.declared.slots.Current.{Current}
 
 -- the session is the first of its place in the map

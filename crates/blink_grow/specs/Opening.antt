@@ -4,8 +4,8 @@ use mathlib.Core.Option.{some}
 use lib.ListN.{get_elem?}
 use Rattle.blink_batch.specs.declared.Entry.{Entry}
 use Rattle.blink_page.specs.declared.limits.TheConstants.{MAX_PAGE}
-use Rattle.blink_map.specs.declared.map.Room.{Room}
-use Rattle.blink_map.specs.{IsTooLarge}
+use Rattle.blink_generation.specs.declared.map.Room.{Room}
+use Rattle.blink_generation.specs.{IsTooLarge}
 use Rattle.blink_grow.specs.declared.error.GrowError.{GrowError}
 use Rattle.blink_grow.specs.declared.error.GrowError.TheVariants.{OutOfMemory, Sessions, TooLarge}
 use Rattle.blink_grow.specs.declared.growing.GrowingMap.{GrowingMap}

@@ -3,7 +3,7 @@ use Rattle.std.specs.Prelude.{◌≡◌}
 use Rattle.std.specs.Arc.{arc_value}
 use Rattle.blink_batch.specs.declared.Op.{Op}
 use Rattle.blink_batch.specs.{FitsWords}
-use Rattle.blink_map.specs.{IsPendingOf as IsPendingIn, LacksRoom, op_of as op_of_pending, session_of}
+use Rattle.blink_generation.specs.{IsPendingOf as IsPendingIn, LacksRoom, op_of as op_of_pending, session_of}
 use Rattle.blink_grow.specs.declared.growing.GrowingMap.{GrowingMap}
 use Rattle.blink_grow.specs.declared.held.Held.{Held}
 use Rattle.blink_grow.specs.declared.held.PendingHeld.{PendingHeld}

@@ -9,8 +9,8 @@ use Rattle.blink_batch.specs.declared.Entry.{Entry}
 use Rattle.blink_batch.specs.{pointer_of}
 use Rattle.blink_live.specs.declared.view.Change.{Change}
 use Rattle.blink_live.specs.{after, made_at}
-use Rattle.blink_map.specs.declared.map.Map.{Map}
-use Rattle.blink_map.specs.{IsSameMember, IsSessionOf, made_by, opening_of as opening_of_map, place_of, places_of as places_of_map, seen_by}
+use Rattle.blink_generation.specs.declared.map.Map.{Map}
+use Rattle.blink_generation.specs.{IsSameMember, IsSessionOf, made_by, opening_of as opening_of_map, place_of, places_of as places_of_map, seen_by}
 use Rattle.blink_grow.specs.declared.error.GrowError.{GrowError}
 use Rattle.blink_grow.specs.declared.error.GrowError.TheVariants.{Busy, Full, OutOfMemory, TooLarge}
 use Rattle.blink_grow.specs.declared.growing.GrowingMap.{GrowingMap}

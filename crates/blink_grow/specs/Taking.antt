@@ -2,7 +2,7 @@
 use Rattle.std.specs.Prelude.{◌≡◌, ℕ, ◌+◌, ◌<◌, ◌^◌, Some, None, ◌∷◌, length}
 use mathlib.Core.List.{IsPrefix}
 use Rattle.atomic_table.specs.Table.{rest}
-use Rattle.blink_map.specs.{IsSameMember, made_by, seen_by}
+use Rattle.blink_generation.specs.{IsSameMember, made_by, seen_by}
 use Rattle.blink_grow.specs.declared.slots.Current.{Current}
 use Rattle.blink_grow.specs.Own.{IsIdle, KnowsAuthors, own_of}
 use Rattle.blink_grow.specs.Rule.{SlotSeat}

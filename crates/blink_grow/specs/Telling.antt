@@ -4,7 +4,7 @@ use mathlib.Core.Option.{some}
 use mathlib.Core.List.{IsPrefix}
 use lib.ListN.{get_elem?}
 use Rattle.blink_live.specs.{HaveAuthors, made_at}
-use Rattle.blink_map.specs.{seen_by}
+use Rattle.blink_generation.specs.{seen_by}
 use Rattle.blink_grow.specs.declared.slots.Current.{Current}
 use Rattle.blink_grow.specs.declared.slots.Known.{Known}
 use Rattle.blink_grow.specs.Own.{IsIdle, KnowsAuthors, own_of}

@@ -2,7 +2,7 @@
 ghost use Rattle.std.specs.Prelude.{◌≡◌, ◌≤◌, ◌-◌, [], suc, IsTrue, length, vec_capacity};
 ghost use mathlib.Core.List.{IsPrefix};
 ghost use Rattle.std.specs.Arc.{arc_value};
-ghost use Rattle.blink_map.specs.{IsSessionOf, seen_by};
+ghost use Rattle.blink_generation.specs.{IsSessionOf, seen_by};
 ghost use Rattle.blink_grow.specs.Laid.{slot_behind};
 ghost use Rattle.blink_grow.specs.Sessions.{places_of};
 ghost use Rattle.blink_grow.specs.Renewing.{AreOfOneMap, HasHeardAll, HasSeenOwn, HaveSeenOwn, IsRenewing, MaySeeMore};

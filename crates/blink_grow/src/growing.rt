@@ -10,7 +10,7 @@ use atomic_table::{Seat, Table};
 use std::alloc::Global;
 use std::sync::atomic::{AtomicBool, AtomicU64};
 
-/// A map from `u64` to `u64` which grows. It is one map of `blink_map` after another: where the current one is full, its entries are
+/// A map from `u64` to `u64` which grows. It is one map of `blink_generation` after another: where the current one is full, its entries are
 /// packed, and another map is opened over them with more room. Changes wait meanwhile. Searches go on, and wait only while the sessions
 /// are gathered, before the entries are copied and after: that takes microseconds, unless a session is in a long call. One session is
 /// with the renewal until the next map is there, and its searches wait too: that of the thread which renews, or the first one.

@@ -1,12 +1,12 @@
 //! The types of a session that is held: `Held`, and a `PendingHeld`, which is its operation under way.
 ghost use Rattle.std.specs.Prelude.{◌≡◌, ◌<◌, ◌↔◌, IsTrue};
-ghost use Rattle.blink_map.specs.{LacksRoomInAll};
+ghost use Rattle.blink_generation.specs.{LacksRoomInAll};
 ghost use Rattle.blink_grow.specs.Held.{IsHeld};
 
 use crate::slots::{Current, SlotView};
 use atomic_table::Seat;
 use blink_batch::Op;
-use blink_map::{Map, Pending};
+use blink_generation::{Map, Pending};
 use std::snapshot::Snapshot;
 use std::sync::Arc;
 

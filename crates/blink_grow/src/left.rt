@@ -8,7 +8,7 @@ use crate::growing::GrowingMap;
 use std::hint;
 
 impl GrowingMap {
-    /// Returns how many rows and how many page numbers the current map's pool has left, as `Map::room` of `blink_map` does, for an operator
+    /// Returns how many rows and how many page numbers the current map's pool has left, as `Map::room` of `blink_generation` does, for an operator
     /// who watches how soon the map is renewed. No clause says that the numbers are right. What sessions have drawn, the pool doesn't have
     /// (`Held::stock`).
     ///

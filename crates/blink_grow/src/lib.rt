@@ -1,4 +1,4 @@
-//! A map that grows: any thread changes it at any key, and it has no room to be told. It is one map of `blink_map` after another: where
+//! A map that grows: any thread changes it at any key, and it has no room to be told. It is one map of `blink_generation` after another: where
 //! the current one is full, the sessions are gathered, the entries copied into the next map with more room, and sessions of it put in
 //! their places. The contracts speak of one list of changes, which is that of all these maps, one behind the other.
 #![tactic(auto)]
@@ -31,8 +31,8 @@ mod try_reads;
 mod waiting;
 mod worn;
 
+pub use blink_generation::{Room, Stock};
 pub use blink_live::Scanned;
-pub use blink_map::{Room, Stock};
 pub use error::GrowError;
 pub use growing::{GrowingMap, Session, Unclosed};
 pub use held::{Held, PendingHeld, StoppedHeld};

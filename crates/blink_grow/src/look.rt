@@ -2,7 +2,7 @@
 ghost use Rattle.std.specs.Prelude.{◌≡◌, ◌≤◌, IfOk, IfSome, drop, length, take};
 ghost use Rattle.blink_batch.specs.{pointer_of};
 ghost use Rattle.blink_live.specs.{IsReport, IsReportBack, IsSnapshot, StoppedFull, after, start_of, stop_of};
-ghost use Rattle.blink_map.specs.{AnswersAsSeen};
+ghost use Rattle.blink_generation.specs.{AnswersAsSeen};
 ghost use Rattle.blink_grow.specs.Holding.{IsHeldOf, IsHeldOn, seen_by_held, stock_of_held};
 ghost use Rattle.blink_grow.specs.Sessions.{opening_of};
 
@@ -10,8 +10,8 @@ use crate::growing::GrowingMap;
 use crate::held::Held;
 use crate::slots::Current;
 use blink_batch::Entry;
+use blink_generation::Stock;
 use blink_live::Scanned;
-use blink_map::Stock;
 use std::alloc::{AllocError, Global};
 
 impl GrowingMap {
@@ -35,7 +35,7 @@ impl GrowingMap {
         map.find(session, key)
     }
 
-    /// Looks up several keys by a held session, of which the loads overlap, as `Map::find_all` of `blink_map` does: to each key it
+    /// Looks up several keys by a held session, of which the loads overlap, as `Map::find_all` of `blink_generation` does: to each key it
     /// answers, in its place, what `find_held` would answer, after the changes of all keys that the session has seen by then. The call takes no
     /// memory, waits for nobody, and returns.
     pub fn find_all_held(&self, held: &mut Held, keys: &[u64], answers: &mut [Option<u64>])

@@ -3,7 +3,7 @@ ghost use Rattle.std.specs.Prelude.{◌≡◌, ◌<◌, ◌≤◌, suc, IfErr, I
 ghost use Rattle.std.specs.Arc.{arc_value};
 ghost use Rattle.blink_index.specs.{map_of};
 ghost use Rattle.blink_page.specs.{IsFan};
-ghost use Rattle.blink_map.specs.{IsSessionOf};
+ghost use Rattle.blink_generation.specs.{IsSessionOf};
 ghost use Rattle.blink_grow.specs.Laid.{AreFirst, AreOthersIn, IsFirstIn};
 ghost use Rattle.blink_grow.specs.Renewing.{AreEntriesSeen, AreNext, IsRefusal, MaySeeMore};
 
@@ -11,8 +11,8 @@ use crate::error::GrowError;
 use crate::room::room_over;
 use crate::slots::Current;
 use crate::waiting::COPY_TRIES;
+use blink_generation::{Map, MapError, Session};
 use blink_index::{Index, SortedError};
-use blink_map::{Map, MapError, Session};
 use std::alloc::{AllocError, Global};
 use std::sync::Arc;
 

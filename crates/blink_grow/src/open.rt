@@ -2,7 +2,7 @@
 ghost use Rattle.std.specs.Prelude.{◌≡◌, ◌≤◌, ◌++◌, [], ◌∷◌, Some, All, IfErr, IfOk, IsFalse, IsTrue, OnOk, length, replicate};
 ghost use Rattle.std.specs.Arc.{arc_value};
 ghost use Rattle.blink_index.specs.{map_of};
-ghost use Rattle.blink_map.specs.{opening_of as opening_of_map, places_of as places_of_map};
+ghost use Rattle.blink_generation.specs.{opening_of as opening_of_map, places_of as places_of_map};
 ghost use Rattle.blink_grow.specs.Laid.{AreFirst, AreLaid};
 ghost use Rattle.blink_grow.specs.Opening.{AreFirstSessions, HasBadSessions, WhyNotInRoom, WhyNotOpened, dealer};
 ghost use Rattle.blink_grow.specs.declared.error.GrowError.TheVariants.{OutOfMemory, Sessions};
@@ -14,8 +14,8 @@ use crate::room::{parts_for, room_over};
 use crate::slots::{Current, Origin, PartWithFirst, RuleOfSlots, SLOT_WORDS, SlotView};
 use crate::worn::{FirstCounts, had_at_first};
 use atomic_table::{Seat, Table};
+use blink_generation::{Map, MapError, Room};
 use blink_index::Index;
-use blink_map::{Map, MapError, Room};
 use blink_page::MAX_FAN;
 use std::alloc::{AllocError, Global};
 use std::snapshot::Snapshot;
@@ -260,7 +260,7 @@ fn table_of(
 fn lay(
     alloc: Global,
     map: &Arc<Map>,
-    mut sessions: Vec<blink_map::Session>,
+    mut sessions: Vec<blink_generation::Session>,
 ) -> Result<Vec<Option<Current>>, AllocError>
     requires first { AreFirst (arc_value map.now) sessions.items }
     ensures laid { IfOk result (λ slots. AreLaid (arc_value map.now) slots.items) }

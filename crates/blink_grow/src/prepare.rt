@@ -2,7 +2,7 @@
 ghost use Rattle.std.specs.Prelude.{◌≡◌, ◌≤◌, ◌<◌, [], suc, IfErr, IfOk, IfSome, OnSome, vec_capacity};
 ghost use Rattle.std.specs.Arc.{arc_value};
 ghost use Rattle.blink_index.specs.{map_of};
-ghost use Rattle.blink_map.specs.{IsSessionOf};
+ghost use Rattle.blink_generation.specs.{IsSessionOf};
 ghost use Rattle.blink_grow.specs.Renewing.{AreEntriesSeen, AreNext, IsCopied, IsNoted, IsRefusal, IsRenewing, MaySeeMore};
 ghost use Rattle.blink_grow.specs.Sessions.{places_of};
 

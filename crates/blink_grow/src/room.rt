@@ -2,7 +2,7 @@
 ghost use Rattle.std.specs.Prelude.{◌≡◌, ◌<◌, ◌≤◌, ◌+◌, ◌*◌, IfSome, IsNone};
 ghost use Rattle.blink_page.specs.declared.limits.TheConstants.{MAX_PAGE};
 
-use blink_map::Room;
+use blink_generation::Room;
 use blink_page::MAX_PAGE;
 
 // A session finds so many page numbers and rows at least, if there is room for it.

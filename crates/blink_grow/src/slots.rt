@@ -3,9 +3,9 @@
 //! processor's cache for itself: otherwise calls of different threads would wait for one line.
 use atomic_table::{Join, Play, Split, TableRule};
 use blink_batch::Entry;
+use blink_generation::{Map, Session};
 use blink_index::Index;
 use blink_live::Change;
-use blink_map::{Map, Session};
 use std::collections::LinkedList;
 use std::snapshot::Snapshot;
 use std::sync::Arc;

@@ -10,11 +10,11 @@ use crate::growing::GrowingMap;
 use crate::held::{Held, PendingHeld, StoppedHeld};
 use crate::slots::Current;
 use blink_batch::{Answer, Op};
-use blink_map::Stopped;
+use blink_generation::Stopped;
 use std::snapshot::Snapshot;
 
 impl GrowingMap {
-    /// Runs an operation that changes the map, by a held session, as `Map::start` of `blink_map` does in the current map. It answers as
+    /// Runs an operation that changes the map, by a held session, as `Map::start` of `blink_generation` does in the current map. It answers as
     /// `try_change` does. The call takes no memory, waits for nobody, and returns.
     ///
     /// It stops where the session lacks room for the operation in the current map, and has changed nothing then. It also stops where the

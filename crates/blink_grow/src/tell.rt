@@ -3,7 +3,7 @@ ghost use Rattle.std.specs.Prelude.{◌≡◌, ◌<◌, IfErr, OnOk};
 ghost use mathlib.Core.List.{IsPrefix};
 ghost use Rattle.std.specs.Arc.{arc_value};
 ghost use Rattle.blink_grow.specs.declared.slots.Known.{Known};
-ghost use Rattle.blink_map.specs.{IsSessionOf as IsSessionIn};
+ghost use Rattle.blink_generation.specs.{IsSessionOf as IsSessionIn};
 ghost use Rattle.blink_grow.specs.declared.error.GrowError.TheVariants.{Busy};
 ghost use Rattle.blink_grow.specs.Own.{IsIdle, own_of};
 ghost use Rattle.blink_grow.specs.Renewing.{MaySeeMore};

@@ -3,7 +3,7 @@ ghost use Rattle.std.specs.Prelude.{◌≡◌, IfSome, IsNone};
 ghost use Rattle.std.specs.Arc.{arc_value};
 ghost use Rattle.blink_batch.specs.{FitsWords};
 ghost use Rattle.blink_machine.specs.{IsUpdate};
-ghost use Rattle.blink_map.specs.{AnswersInOrder, IsSessionOf as IsSessionIn, made_by, opening_of};
+ghost use Rattle.blink_generation.specs.{AnswersInOrder, IsSessionOf as IsSessionIn, made_by, opening_of};
 ghost use Rattle.blink_grow.specs.Holding.{IsAnsweredHeld, IsHeldOf, IsHeldOn};
 ghost use Rattle.blink_grow.specs.Sessions.{IsAnswered, IsSameBesideSeen, IsSessionOf};
 ghost use Rattle.blink_grow.specs.Taking.{StaysCurrent};

@@ -37,7 +37,7 @@ impl GrowingMap {
         Ok(self.find_in_place(seat, *slot, key))
     }
 
-    /// Reports the entries whose keys are from `range.0` to `range.1`, both included, in ascending order, as `Map::scan` of `blink_map`
+    /// Reports the entries whose keys are from `range.0` to `range.1`, both included, in ascending order, as `Map::scan` of `blink_generation`
     /// does. What it says of a key is what the changes up to some time in the call leave of it, whatever maps they were made in. The call
     /// looks for the session `tries` times, at least once, and lets a renewal that has begun go first. It takes no memory, waits for
     /// nobody, and returns.
@@ -74,7 +74,7 @@ impl GrowingMap {
     }
 
     /// Reports the entries whose keys are from `range.0` to `range.1`, both included, in descending order, as `Map::scan_back` of
-    /// `blink_map` does. What it says of a key is what the changes up to some time in the call leave of it, whatever maps they were made
+    /// `blink_generation` does. What it says of a key is what the changes up to some time in the call leave of it, whatever maps they were made
     /// in. The call looks for the session `tries` times, at least once, and lets a renewal that has begun go first. It takes no memory,
     /// waits for nobody, and returns.
     ///
@@ -110,7 +110,7 @@ impl GrowingMap {
     }
 
     /// Returns the entries whose keys are from `range.0` to `range.1`, both included, in ascending order, as all of them were at one time
-    /// in the call, as `Map::snapshot` of `blink_map` does: they are what the changes that the session has seen afterwards leave of each
+    /// in the call, as `Map::snapshot` of `blink_generation` does: they are what the changes that the session has seen afterwards leave of each
     /// of these keys, whatever maps they were made in. The call looks for the session `tries` times, at least once, and lets a renewal
     /// that has begun go first. Then it tries the snapshot `tries` times: `None` if some leaf of the range was changed each time. A
     /// renewal waits for the call, which takes memory for the entries, and while it runs 16 bytes for each leaf. It waits for nobody, and

@@ -7,8 +7,8 @@ use crate::growing::{GrowingMap, Session};
 use crate::renew::Reason;
 use crate::room::numbers_over;
 use blink_batch::{Answer, Op};
+use blink_generation::Map;
 use blink_index::Index;
-use blink_map::Map;
 use std::alloc::Global;
 use std::sync::atomic::{AtomicU64, Ordering};
 

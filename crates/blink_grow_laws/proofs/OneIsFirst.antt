@@ -9,7 +9,7 @@ use Rattle.blink_batch.specs.{answer_at}
 use Rattle.blink_live.specs.declared.view.Change.{Change}
 use Rattle.blink_live.specs.{after, changes_made, made_at}
 use Rattle.blink_live.proofs.Offered.{AreBy, made_here}
-use Rattle.blink_map.specs.{change_to}
+use Rattle.blink_generation.specs.{change_to}
 use Rattle.blink_grow_laws.specs.Racing.{OneIsInserted}
 
 -- a list of no length

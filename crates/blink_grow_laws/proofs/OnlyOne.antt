@@ -6,7 +6,7 @@ use Rattle.blink_batch.specs.declared.Op.TheVariants.{Insert}
 use Rattle.blink_live.specs.declared.view.Change.{Change}
 use Rattle.blink_live.specs.{after, changes_made, made_at}
 use Rattle.blink_live.proofs.Offered.{AreBy, prefix_of_prefix}
-use Rattle.blink_map.specs.{change_to}
+use Rattle.blink_generation.specs.{change_to}
 use Rattle.blink_grow.specs.declared.growing.Session.{Session}
 use Rattle.blink_grow.specs.{made_by, place_of}
 use Rattle.blink_grow_laws.proofs.OnlyTwo.{not_made}

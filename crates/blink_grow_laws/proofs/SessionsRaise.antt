@@ -8,7 +8,7 @@ use Rattle.blink_live.specs.{after, made_at, put}
 use Rattle.blink_live.proofs.Offered.{made_at-append}
 use Rattle.blink_grow.specs.declared.growing.GrowingMap.{GrowingMap}
 use Rattle.blink_grow.specs.declared.growing.Session.{Session}
-use Rattle.blink_map.specs.{change_to}
+use Rattle.blink_generation.specs.{change_to}
 use Rattle.blink_grow.specs.{HasSameSlot, IsSameBesideSeen, made_by, opening_of, place_of, seen_by}
 use Rattle.blink_grow_laws.specs.Counting.{AreRaises, IsRaise}
 use Rattle.blink_grow_laws.specs.Counting.{HasRaised, IsPut, IsRaisedTo}

@@ -12,7 +12,7 @@ use Rattle.blink_batch.specs.{answer_at, key_of, pointer_of}
 use Rattle.blink_live.specs.declared.view.Change.{Change}
 use Rattle.blink_live.specs.{after, changes_made, has_changed}
 use Rattle.blink_live.proofs.Offered.{prefix_of_prefix}
-use Rattle.blink_map.specs.{change_to}
+use Rattle.blink_generation.specs.{change_to}
 use Rattle.blink_grow.specs.declared.growing.GrowingMap.{GrowingMap}
 use Rattle.blink_grow.specs.declared.growing.Session.{Session}
 use Rattle.blink_grow.specs.{IsAnswered, IsSameBesideSeen, made_by, opening_of, place_of, seen_by}

@@ -7,7 +7,7 @@ use Rattle.blink_live.specs.{after, made_at, put}
 use Rattle.blink_grow.specs.declared.growing.GrowingMap.{GrowingMap}
 use Rattle.blink_grow.specs.declared.growing.Session.{Session}
 use Rattle.blink_grow.specs.{HasSameSlot, IsSameBesideSeen, made_by, opening_of, place_of, seen_by}
-use Rattle.blink_map.specs.{change_to}
+use Rattle.blink_generation.specs.{change_to}
 use Rattle.blink_grow_laws.specs.declared.counter.NotRaised.{NotRaised}
 
 -- there is a list of changes that goes on from all that the session had seen; `was` is what they left of the key. The session's

@@ -5,8 +5,8 @@ use denote.Enum.Declared as enum
 use Rattle.std.proofs.Crossing as heap
 use Rattle.std.proofs.Crossing.{crosses}
 use Rattle.atomic_table.proofs.shared.Seat.TheSendSync as seat
-use Rattle.blink_map.proofs.map.Map.TheSendSync as map
-use Rattle.blink_map.proofs.Offered.{pending_send}
+use Rattle.blink_generation.proofs.map.Map.TheSendSync as map
+use Rattle.blink_generation.proofs.Offered.{pending_send}
 use Rattle.blink_grow.proofs.growing.Session.TheSendSync as session
 use Rattle.blink_grow.proofs.growing.Unclosed.TheSendSync as unclosed
 use Rattle.blink_grow.proofs.held.Held.TheSendSync as held
@@ -14,7 +14,7 @@ use Rattle.blink_grow.proofs.slots.Current.TheSendSync as current
 use Rattle.blink_grow.specs.contracts.held.PendingHeld as Pending
 use Rattle.blink_grow.specs.contracts.slots.Current as Current
 use Rattle.blink_grow.specs.contracts.slots.SlotView as SlotView
-use Rattle.blink_map.specs.contracts.map.Map as Map
+use Rattle.blink_generation.specs.contracts.map.Map as Map
 use Rattle.std.specs.contracts.option.Option as Option
 use Rattle.std.proofs.option.Option.TheSendSync as option
 use Rattle.blink_owners.specs.contracts.map_owner.MapOwner as MapOwner

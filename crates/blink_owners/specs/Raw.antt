@@ -6,7 +6,7 @@ use Rattle.blink_batch.specs.declared.Entry.{Entry}
 use Rattle.blink_batch.specs.declared.Op.{Op}
 use Rattle.blink_batch.specs.declared.Op.TheVariants.{Find, Insert, Delete, Replace}
 use Rattle.blink_live.specs.declared.scan.Scanned.{Scanned}
-use Rattle.blink_map.specs.declared.stock.Stock.{Stock}
+use Rattle.blink_generation.specs.declared.stock.Stock.{Stock}
 use Rattle.blink_owners.specs.declared.raw.RawAnswer.{RawAnswer}
 use Rattle.blink_owners.specs.declared.raw.RawEntry.{RawEntry}
 use Rattle.blink_owners.specs.declared.raw.RawOperation.{RawOperation}

@@ -4,8 +4,8 @@ ghost use Rattle.blink_owners.specs.Reports.{AreTaken, IsNotTaken};
 ghost use Rattle.blink_owners.specs.Raw.{op_of, raw_answer, raw_entry, raw_given, raw_next, raw_scanned, raw_shown, raw_stock};
 
 use blink_batch::{Answer, Entry, Op};
+use blink_generation::Stock;
 use blink_live::Scanned;
-use blink_map::Stock;
 
 /// A key with its record pointer.
 #[repr(C)]

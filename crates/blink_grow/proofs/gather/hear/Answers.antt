@@ -1,7 +1,7 @@
 use Rattle.std.proofs.Common.{List, [], append-nil, refl, sym, ◌∙◌, subst}
 use mathlib.Core.List.{IsPrefix}
 use Rattle.blink_live.specs.declared.view.Change.{Change}
-use Rattle.blink_map.specs.{seen_by}
+use Rattle.blink_generation.specs.{seen_by}
 use Rattle.blink_grow.proofs.gather.hear.Goals as goal
 
 pub returns-clause-heard : goal.returns-clause-heard

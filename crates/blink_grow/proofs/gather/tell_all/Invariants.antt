@@ -1,6 +1,6 @@
 use Rattle.std.proofs.Common.{◌≡◌, List, ◌++◌, length}
 use Rattle.std.specs.Arc.{arc_value}
-use Rattle.blink_map.specs.{IsSessionOf, seen_by}
+use Rattle.blink_generation.specs.{IsSessionOf, seen_by}
 use Rattle.blink_grow.specs.declared.slots.Current.{Current}
 use Rattle.blink_grow.specs.Renewing.{HaveSeenOwn}
 use Rattle.blink_grow.proofs.gather.tell_all.Given as goal

@@ -3,9 +3,9 @@ use Rattle.std.specs.Prelude.{IfSome, Option, Vec}
 use Rattle.blink_batch.specs.declared.Entry.{Entry}
 use Rattle.blink_batch.specs.{pointer_of}
 use Rattle.blink_live.specs.{IsSnapshot, after}
-use Rattle.blink_map.specs.declared.map.Map.{Map}
-use Rattle.blink_map.specs.declared.map.Session.{Session as MapSession}
-use Rattle.blink_map.specs.{opening_of, seen_by}
+use Rattle.blink_generation.specs.declared.map.Map.{Map}
+use Rattle.blink_generation.specs.declared.map.Session.{Session as MapSession}
+use Rattle.blink_generation.specs.{opening_of, seen_by}
 use Rattle.blink_grow.proofs.next.index_of.Goals as goal
 
 pub returns-in-Ok-from_sorted-clause-entries : goal.returns-in-Ok-from_sorted-clause-entries

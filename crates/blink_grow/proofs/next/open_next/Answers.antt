@@ -1,5 +1,5 @@
 use Rattle.std.proofs.Common.{sym, ◌∙◌, subst, arith}
-use Rattle.blink_map.specs.declared.map.Map.{Map}
+use Rattle.blink_generation.specs.declared.map.Map.{Map}
 use Rattle.blink_grow.specs.Laid.{AreFirst, AreOthersIn, IsFirstIn}
 use Rattle.blink_grow.proofs.Opens.{first_dealt}
 use Rattle.blink_grow.proofs.next.open_next.Goals as goal

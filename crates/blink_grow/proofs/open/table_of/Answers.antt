@@ -2,7 +2,7 @@ use Rattle.std.proofs.Common.{◌≡◌, ℕ, List, Option, length, sym, ap, ◌
 use Rattle.atomic_table.specs.Table.{opening}
 use Rattle.blink_batch.specs.declared.Entry.{Entry}
 use Rattle.blink_index.specs.{map_of}
-use Rattle.blink_map.specs.{opening_of}
+use Rattle.blink_generation.specs.{opening_of}
 use Rattle.blink_grow.specs.declared.slots.Current.{Current}
 use Rattle.blink_grow.specs.Rule.{IsGrowing, opener, word_of}
 use Rattle.blink_grow.proofs.SlotsOpen.{free_words, slots_open}

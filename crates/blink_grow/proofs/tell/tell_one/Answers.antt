@@ -1,7 +1,7 @@
 use Rattle.std.proofs.Common.{Bool, sym, subst}
 use Rattle.blink_live.proofs.Offered.{prefix_of_prefix}
-use Rattle.blink_map.specs.{IsSessionOf as IsSessionIn, seen_by}
-use Rattle.blink_map.specs.declared.map.Map.{Map}
+use Rattle.blink_generation.specs.{IsSessionOf as IsSessionIn, seen_by}
+use Rattle.blink_generation.specs.declared.map.Map.{Map}
 use Rattle.blink_grow.specs.Telling.{IsTold}
 use Rattle.blink_grow.proofs.tell.tell_one.Goals as goal
 

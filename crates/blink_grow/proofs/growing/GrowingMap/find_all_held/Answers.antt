@@ -2,8 +2,8 @@ use Rattle.std.proofs.Common.{◌≡◌, ℕ, ◌<◌, List, get_or, refl, sym, 
 use Rattle.std.specs.Prelude.{◌^◌}
 use mathlib.Core.Option.{some, some-injective}
 use lib.ListN.{get_elem?}
-use Rattle.blink_map.specs.declared.map.Map.{Map}
-use Rattle.blink_map.specs.{AnswersAsSeen, opening_of, seen_by}
+use Rattle.blink_generation.specs.declared.map.Map.{Map}
+use Rattle.blink_generation.specs.{AnswersAsSeen, opening_of, seen_by}
 use Rattle.blink_grow.proofs.Basics.{in_list, some_or}
 use Rattle.blink_grow.proofs.HeldSessions.{answers_as_seen_whole, held_again, knows_more}
 use Rattle.blink_grow.proofs.growing.GrowingMap.find_all_held.Goals as goal

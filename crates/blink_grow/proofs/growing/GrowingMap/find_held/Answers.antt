@@ -1,8 +1,8 @@
 use Rattle.std.proofs.Common.{refl, ap, ◌∙◌}
 use Rattle.blink_batch.specs.{pointer_of}
 use Rattle.blink_live.specs.{after}
-use Rattle.blink_map.specs.declared.map.Map.{Map}
-use Rattle.blink_map.specs.{opening_of, seen_by}
+use Rattle.blink_generation.specs.declared.map.Map.{Map}
+use Rattle.blink_generation.specs.{opening_of, seen_by}
 use Rattle.blink_grow.proofs.HeldSessions.{held_again, knows_more, left_by_whole}
 use Rattle.blink_grow.proofs.growing.GrowingMap.find_held.Goals as goal
 

@@ -1,8 +1,8 @@
 use Rattle.std.proofs.Common.{Some, refl, ap, ◌∙◌}
 use Rattle.blink_batch.specs.{pointer_of}
 use Rattle.blink_live.specs.{after}
-use Rattle.blink_map.specs.declared.map.Map.{Map}
-use Rattle.blink_map.specs.{opening_of, seen_by}
+use Rattle.blink_generation.specs.declared.map.Map.{Map}
+use Rattle.blink_generation.specs.{opening_of, seen_by}
 use Rattle.blink_grow.proofs.CallsOfSessions.{held_with}
 use Rattle.blink_grow.proofs.InPlace.{can_give_then, idle_then, its_then, not_empty, own_out, tells_then}
 use Rattle.blink_grow.proofs.growing.GrowingMap.find_in_place.Goals as goal

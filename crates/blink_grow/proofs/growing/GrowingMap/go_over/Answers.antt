@@ -1,6 +1,6 @@
 use Rattle.std.proofs.Common.{◌++◌, sym, subst}
 use Rattle.blink_index.specs.{map_of}
-use Rattle.blink_map.specs.{seen_by}
+use Rattle.blink_generation.specs.{seen_by}
 use Rattle.blink_grow.specs.declared.slots.Current.{Current}
 use Rattle.blink_grow.specs.Renewing.{IsRenewing}
 use Rattle.blink_grow.proofs.NextMap.{all_taken, is_switched_to, next_follows, of_one_map}

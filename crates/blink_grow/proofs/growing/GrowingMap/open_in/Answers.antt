@@ -1,7 +1,7 @@
 use Rattle.std.proofs.Common.{ℕ, ◌≤◌, sym, ap, ◌∙◌, subst}
 use Rattle.std.specs.Arc.{arc_value}
-use Rattle.blink_map.specs.declared.map.Map.{Map}
-use Rattle.blink_map.specs.{opening_of, places_of}
+use Rattle.blink_generation.specs.declared.map.Map.{Map}
+use Rattle.blink_generation.specs.{opening_of, places_of}
 use Rattle.blink_grow.specs.Laid.{AreFirst}
 use Rattle.blink_grow.proofs.Opens.{all_its_own, few_sessions, first_dealt, some_sessions}
 use Rattle.blink_grow.proofs.growing.GrowingMap.open_in.Goals as goal

@@ -1,8 +1,8 @@
 use Rattle.std.proofs.Common.{refl, subst}
 use Rattle.std.specs.Prelude.{length, take}
 use Rattle.blink_live.specs.{IsReport, stop_of}
-use Rattle.blink_map.specs.declared.map.Map.{Map}
-use Rattle.blink_map.specs.{opening_of, seen_by}
+use Rattle.blink_generation.specs.declared.map.Map.{Map}
+use Rattle.blink_generation.specs.{opening_of, seen_by}
 use Rattle.blink_grow.proofs.CallsOfSessions.{fits_below}
 use Rattle.blink_grow.proofs.HeldSessions.{held_again, knows_more, report_whole}
 use Rattle.blink_grow.proofs.growing.GrowingMap.scan_held.Goals as goal

@@ -1,8 +1,8 @@
 use Rattle.std.proofs.Common.{Some, refl, subst}
 use Rattle.std.specs.Prelude.{length, take}
 use Rattle.blink_live.specs.{IsReport, stop_of}
-use Rattle.blink_map.specs.declared.map.Map.{Map}
-use Rattle.blink_map.specs.{opening_of, seen_by}
+use Rattle.blink_generation.specs.declared.map.Map.{Map}
+use Rattle.blink_generation.specs.{opening_of, seen_by}
 use Rattle.blink_grow.proofs.CallsOfSessions.{fits_below, held_with}
 use Rattle.blink_grow.proofs.InPlace.{can_give_then, idle_then, its_then, not_empty, own_out, report_then}
 use Rattle.blink_grow.proofs.growing.GrowingMap.scan_in_place.Goals as goal

@@ -1,8 +1,8 @@
 use Rattle.std.proofs.Common.{Some, refl, subst}
 use Rattle.std.specs.Prelude.{Option, None, Result, Ok, Err, IfOk, IfSome}
 use Rattle.blink_live.specs.{IsSnapshot}
-use Rattle.blink_map.specs.declared.map.Map.{Map}
-use Rattle.blink_map.specs.{opening_of, seen_by}
+use Rattle.blink_generation.specs.declared.map.Map.{Map}
+use Rattle.blink_generation.specs.{opening_of, seen_by}
 use Rattle.blink_grow.proofs.CallsOfSessions.{held_with}
 use Rattle.blink_grow.proofs.InPlace.{can_give_then, idle_then, its_then, not_empty, own_out, snapshot_then}
 use Rattle.blink_grow.proofs.growing.GrowingMap.snapshot_in_place.Goals as goal

@@ -1,6 +1,6 @@
 use Rattle.std.proofs.Common.{refl, subst}
-use Rattle.blink_map.specs.declared.map.Map.{Map}
-use Rattle.blink_map.specs.{AnswersInOrder, HasStopped, opening_of}
+use Rattle.blink_generation.specs.declared.map.Map.{Map}
+use Rattle.blink_generation.specs.{AnswersInOrder, HasStopped, opening_of}
 use Rattle.blink_grow.proofs.CallsOfSessions.{has_tried, in_order_counted, key_fits, saw_answer}
 use Rattle.blink_grow.proofs.HeldSessions.{answers_whole, held_again, held_counted, knows_more}
 use Rattle.blink_grow.proofs.growing.GrowingMap.start_in_current.Goals as goal

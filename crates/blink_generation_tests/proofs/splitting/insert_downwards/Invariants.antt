@@ -1,0 +1,5 @@
+use Rattle.blink_generation.specs.{IsSessionOf}
+use Rattle.blink_generation_tests.proofs.splitting.insert_downwards.Given as goal
+
+abbrev pub invariant-loop-place : goal.invariant-loop-place
+invariant-loop-place g l = IsSessionOf l.map l.session

@@ -1,4 +1,0 @@
--- What this crate offers to the proofs of the crates above.
-
--- a pending operation may go to another thread
-pub use Rattle.blink_map.proofs.PendingsAreSent.{pending_send}

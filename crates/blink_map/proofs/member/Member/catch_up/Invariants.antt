@@ -1,9 +1,0 @@
-use Rattle.blink_map.specs.Changing.{HasDrawn}
-use Rattle.blink_map.specs.Places.{IsMemberOf}
-use Rattle.blink_map.proofs.member.Member.catch_up.Given as goal
-
-abbrev pub invariant-loop : goal.invariant-loop
-invariant-loop l = record {
-  its_own : IsMemberOf l.live l.self;
-  drawn : HasDrawn 0 0 l.fn.self l.self;
-}

@@ -1,5 +1,0 @@
-use Rattle.blink_map.specs.{IsSessionOf}
-use Rattle.blink_map_tests.proofs.scanning_back.scan_even_back.Given as goal
-
-abbrev pub invariant-loop : goal.invariant-loop
-invariant-loop g l = IsSessionOf l.map l.session
