@@ -125,7 +125,7 @@ CRATES = {
     "index_main": (1.35, 15.4), "show_main": (2.9, 15.4), "blink_c": (5.97, 15.4), "blink_owners": (5.97, 14.5), "show_command": (2.3, 14.5),
     "blink_command": (1.2, 13.6), "blink_show": (3.9, 13.6), "blink_run": (2.6, 12.0), "blink_locked": (1.9, 10.8),
     "blink_replay": (4.6, 10.8), "blink_settings": (1.1, 9.6), "blink_steps": (3.3, 9.6), "blink_client": (3.95, 8.3),
-    "blink_generation": (5.97, 7.4), "blink_grow": (5.3, 8.08), "blink_grow_laws": (5.95, 8.9),
+    "blink_generation": (5.97, 7.4), "blink_map": (5.3, 8.08), "blink_map_laws": (5.95, 8.9),
     "blink_live": (5.37, 6.7), "blink_index": (4.9, 4.9), "blink_rows": (6.1, 4.9),
     "blink_machine": (2.9, 3.3), "blink_entries": (4.5, 3.3), "blink_batch": (1.2, 3.3), "blink_rest": (3.4, 2.2), "blink_store": (3.95, 1.1),
     "blink_operation": (2.2, 0.0), "blink_page": (5.2, 0.0),

@@ -1,6 +1,6 @@
 //! The exports of a map.
 ghost use Rattle.std.specs.Prelude.{◌≡◌, ◌≢◌, ◌↔◌, None, IfSome, IsFalse, IsSome, length};
-ghost use Rattle.blink_grow.specs.{WhyNotInRoom, WhyNotOpened, is_fixed};
+ghost use Rattle.blink_map.specs.{WhyNotInRoom, WhyNotOpened, is_fixed};
 ghost use Rattle.blink_index.specs.{map_of};
 ghost use Rattle.blink_owners.specs.Codes.{TellsWhy};
 ghost use Rattle.blink_owners.specs.MapCodes.{code_of};
@@ -13,7 +13,7 @@ use crate::index_slot::IndexSlot;
 use crate::map_handle::MapHandle;
 use crate::map_slot::MapSlot;
 use crate::session_slot::SessionSlot;
-use blink_grow::Room;
+use blink_map::Room;
 use blink_owners::map_owner::MapOwner;
 use blink_owners::map_refusal::code_of;
 use blink_owners::refusal::{Code, DONE};

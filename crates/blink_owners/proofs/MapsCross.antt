@@ -7,13 +7,13 @@ use Rattle.std.proofs.Crossing.{crosses}
 use Rattle.atomic_table.proofs.shared.Seat.TheSendSync as seat
 use Rattle.blink_generation.proofs.map.Map.TheSendSync as map
 use Rattle.blink_generation.proofs.Offered.{pending_send}
-use Rattle.blink_grow.proofs.growing.Session.TheSendSync as session
-use Rattle.blink_grow.proofs.growing.Unclosed.TheSendSync as unclosed
-use Rattle.blink_grow.proofs.held.Held.TheSendSync as held
-use Rattle.blink_grow.proofs.slots.Current.TheSendSync as current
-use Rattle.blink_grow.specs.contracts.held.PendingHeld as Pending
-use Rattle.blink_grow.specs.contracts.slots.Current as Current
-use Rattle.blink_grow.specs.contracts.slots.SlotView as SlotView
+use Rattle.blink_map.proofs.growing.Session.TheSendSync as session
+use Rattle.blink_map.proofs.growing.Unclosed.TheSendSync as unclosed
+use Rattle.blink_map.proofs.held.Held.TheSendSync as held
+use Rattle.blink_map.proofs.slots.Current.TheSendSync as current
+use Rattle.blink_map.specs.contracts.held.PendingHeld as Pending
+use Rattle.blink_map.specs.contracts.slots.Current as Current
+use Rattle.blink_map.specs.contracts.slots.SlotView as SlotView
 use Rattle.blink_generation.specs.contracts.map.Map as Map
 use Rattle.std.specs.contracts.option.Option as Option
 use Rattle.std.proofs.option.Option.TheSendSync as option

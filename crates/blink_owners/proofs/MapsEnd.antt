@@ -1,7 +1,7 @@
 -- A map whose close is refused is there still, and was there before.
 use Rattle.std.proofs.Common.{◌↔◌, Result, Ok, Err, IfErr, IsErrOf, ap, inl, inr}
-use Rattle.blink_grow.specs.declared.error.GrowError.{GrowError}
-use Rattle.blink_grow.specs.{IsRefusal}
+use Rattle.blink_map.specs.declared.error.GrowError.{GrowError}
+use Rattle.blink_map.specs.{IsRefusal}
 use Rattle.blink_owners.specs.declared.map_refusal.MapRefusal.{MapRefusal}
 use Rattle.blink_owners.specs.declared.map_refusal.MapRefusal.TheVariants as refused
 use Rattle.blink_owners.specs.declared.shared_map.MapState.{MapState}

@@ -6,11 +6,11 @@ use Rattle.blink_batch.specs.declared.Op.TheVariants.{Insert, Replace}
 use Rattle.blink_batch.specs.{answer_at, key_of, pointer_of}
 use Rattle.blink_live.specs.declared.view.Change.{Change}
 use Rattle.blink_live.specs.{after, changes_made}
-use Rattle.blink_grow.specs.declared.growing.Session.{Session}
-use Rattle.blink_grow.specs.declared.held.Held.{Held}
-use Rattle.blink_grow.specs.declared.held.PendingHeld.{PendingHeld}
-use Rattle.blink_grow.specs.declared.slots.Known.{Known}
-use Rattle.blink_grow.specs.{IsContinued, op_of, opening_of}
+use Rattle.blink_map.specs.declared.growing.Session.{Session}
+use Rattle.blink_map.specs.declared.held.Held.{Held}
+use Rattle.blink_map.specs.declared.held.PendingHeld.{PendingHeld}
+use Rattle.blink_map.specs.declared.slots.Known.{Known}
+use Rattle.blink_map.specs.{IsContinued, op_of, opening_of}
 use Rattle.blink_owners.specs.declared.map_refusal.MapRefusal.{MapRefusal}
 use Rattle.blink_owners.specs.declared.map_refusal.MapRefusal.TheVariants as refused
 use Rattle.blink_owners.specs.declared.raw.RawAnswer.{RawAnswer}

@@ -8,12 +8,12 @@ use Rattle.blink_batch.specs.declared.Answer.{Answer}
 use Rattle.blink_batch.specs.declared.Entry.{Entry}
 use Rattle.blink_batch.specs.declared.Op.{Op}
 use Rattle.std.specs.Prelude.{ℕ}
-use Rattle.blink_grow.specs.declared.error.GrowError.{GrowError}
-use Rattle.blink_grow.specs.declared.growing.GrowingMap.{GrowingMap}
-use Rattle.blink_grow.specs.declared.growing.Session.{Session}
-use Rattle.blink_grow.specs.declared.held.Held.{Held}
-use Rattle.blink_grow.specs.declared.slots.Known.{Known}
-use Rattle.blink_grow.specs.{AnswersFrom, HasSamePlace, HasSameSlot, IsAnswered, IsAnsweredHeld, IsContinued, IsHeldOf, IsHeldOn, IsRefusalOf, IsSameBesideSeen, IsSameSession, IsSessionOf, held_of, is_fixed, known_by, known_to, opening_of, place_of, place_of_held}
+use Rattle.blink_map.specs.declared.error.GrowError.{GrowError}
+use Rattle.blink_map.specs.declared.growing.GrowingMap.{GrowingMap}
+use Rattle.blink_map.specs.declared.growing.Session.{Session}
+use Rattle.blink_map.specs.declared.held.Held.{Held}
+use Rattle.blink_map.specs.declared.slots.Known.{Known}
+use Rattle.blink_map.specs.{AnswersFrom, HasSamePlace, HasSameSlot, IsAnswered, IsAnsweredHeld, IsContinued, IsHeldOf, IsHeldOn, IsRefusalOf, IsSameBesideSeen, IsSameSession, IsSessionOf, held_of, is_fixed, known_by, known_to, opening_of, place_of, place_of_held}
 use Rattle.blink_owners.specs.declared.map_refusal.MapRefusal.{MapRefusal}
 use Rattle.blink_owners.specs.declared.map_refusal.MapRefusal.TheVariants as refused
 use Rattle.blink_owners.specs.declared.session_owner.NotMade.{NotMade}

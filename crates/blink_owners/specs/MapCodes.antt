@@ -1,7 +1,7 @@
 -- The refusals of a map or its session, and their codes.
 use Rattle.std.specs.Prelude.{ℕ}
-use Rattle.blink_grow.specs.declared.error.GrowError.{GrowError}
-use Rattle.blink_grow.specs.declared.error.GrowError.TheVariants as grow
+use Rattle.blink_map.specs.declared.error.GrowError.{GrowError}
+use Rattle.blink_map.specs.declared.error.GrowError.TheVariants as grow
 use Rattle.blink_owners.specs.declared.map_refusal.MapRefusal.{MapRefusal}
 use Rattle.blink_owners.specs.declared.map_refusal.MapRefusal.TheVariants.{OutOfMemory, TooLarge, Sessions, NoSession, Busy, Full, RowsBusy, Missing, UnderWay, Idle, Closed}
 

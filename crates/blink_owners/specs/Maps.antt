@@ -2,11 +2,11 @@
 use Rattle.std.specs.Prelude.{◌≡◌, ◌⊎◌, ◌≤◌, ℕ, Bool, List, All, IsTrue, Some, ⊤, length, if◌then◌else◌}
 use Rattle.std.specs.Arc.{arc_value}
 use Rattle.blink_batch.specs.declared.Entry.{Entry}
-use Rattle.blink_grow.specs.declared.error.GrowError.{GrowError}
-use Rattle.blink_grow.specs.declared.error.GrowError.TheVariants as grow
-use Rattle.blink_grow.specs.declared.growing.GrowingMap.{GrowingMap}
-use Rattle.blink_grow.specs.declared.growing.Session.{Session}
-use Rattle.blink_grow.specs.{IsClosedWith, IsSessionOf, is_fixed, opening_of, places_of}
+use Rattle.blink_map.specs.declared.error.GrowError.{GrowError}
+use Rattle.blink_map.specs.declared.error.GrowError.TheVariants as grow
+use Rattle.blink_map.specs.declared.growing.GrowingMap.{GrowingMap}
+use Rattle.blink_map.specs.declared.growing.Session.{Session}
+use Rattle.blink_map.specs.{IsClosedWith, IsSessionOf, is_fixed, opening_of, places_of}
 use Rattle.blink_owners.specs.declared.map_refusal.MapRefusal.{MapRefusal}
 use Rattle.blink_owners.specs.declared.map_refusal.MapRefusal.TheVariants as refused
 use Rattle.blink_owners.specs.declared.map_owner.MapOwner.{MapOwner}
@@ -46,7 +46,7 @@ pub record IsNewMap (entries : List Entry) (places : ℕ) (owner : MapOwner) : T
 abbrev pub places_for : ℕ → Bool → ℕ
 places_for sessions fixed = if fixed then sessions else PLACES
 
--- why a map isn't opened, where this says why `blink_grow` doesn't open one
+-- why a map isn't opened, where this says why `blink_map` doesn't open one
 abbrev pub IsOpenFault : (GrowError → Type 0) → MapRefusal → Type 0
 IsOpenFault why refusal = (refusal ≡ refused.OutOfMemory) ⊎ ((refusal ≡ refused.TooLarge) × why grow.TooLarge) ⊎ ((refusal ≡ refused.Sessions) × why grow.Sessions)
 

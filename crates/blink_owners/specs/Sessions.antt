@@ -8,12 +8,12 @@ use Rattle.blink_batch.specs.declared.Op.{Op}
 use Rattle.blink_batch.specs.declared.Op.TheVariants.{Insert, Replace}
 use Rattle.blink_batch.specs.{pointer_of}
 use Rattle.blink_live.specs.{after}
-use Rattle.blink_grow.specs.declared.growing.GrowingMap.{GrowingMap}
-use Rattle.blink_grow.specs.declared.held.Held.{Held}
-use Rattle.blink_grow.specs.declared.growing.Session.{Session}
-use Rattle.blink_grow.specs.declared.held.PendingHeld.{PendingHeld}
-use Rattle.blink_grow.specs.declared.slots.Known.{Known}
-use Rattle.blink_grow.specs.{AnswersFrom, IsContinued, IsHeldOf, IsPendingOf, IsSessionOf, held_of, is_fixed, known_by, known_to, op_of, opening_of, place_of, place_of_held, stock_of_held}
+use Rattle.blink_map.specs.declared.growing.GrowingMap.{GrowingMap}
+use Rattle.blink_map.specs.declared.held.Held.{Held}
+use Rattle.blink_map.specs.declared.growing.Session.{Session}
+use Rattle.blink_map.specs.declared.held.PendingHeld.{PendingHeld}
+use Rattle.blink_map.specs.declared.slots.Known.{Known}
+use Rattle.blink_map.specs.{AnswersFrom, IsContinued, IsHeldOf, IsPendingOf, IsSessionOf, held_of, is_fixed, known_by, known_to, op_of, opening_of, place_of, place_of_held, stock_of_held}
 use Rattle.blink_owners.specs.declared.raw.RawAnswer.{RawAnswer}
 use Rattle.blink_owners.specs.declared.raw.RawScanned.{RawScanned}
 use Rattle.blink_owners.specs.declared.raw.RawStock.{RawStock}

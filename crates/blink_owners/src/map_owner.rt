@@ -2,7 +2,7 @@
 ghost use Rattle.std.specs.Prelude.{◌≡◌, ◌↔◌, All, IfErr, IfOk, IsErrOf, IsFalse, OnErr, length};
 ghost use Rattle.std.specs.Arc.{arc_value};
 ghost use Rattle.blink_index.specs.{map_of};
-ghost use Rattle.blink_grow.specs.{IsSessionOf, WhyNotInRoom, WhyNotOpened, is_fixed};
+ghost use Rattle.blink_map.specs.{IsSessionOf, WhyNotInRoom, WhyNotOpened, is_fixed};
 ghost use Rattle.blink_owners.specs.Maps.{CanClose, IsClosedMap, IsCloseFault, IsEndFault, IsJoinFault, IsNewMap, IsOpenFault, IsOpenFixed, IsOwnMap, IsOwnerOfSame, IsRenewFault, IsRoomFault, IsShareFault, Joins, map_in, open_fault_of, places_for};
 ghost use Rattle.blink_owners.specs.Sessions.{IsEmpty, IsOwnSession, in_map};
 ghost use Rattle.blink_owners.specs.declared.map_owner.TheConstants.{PLACES};
@@ -10,8 +10,8 @@ ghost use Rattle.blink_owners.specs.declared.map_owner.TheConstants.{PLACES};
 use crate::map_refusal::MapRefusal;
 use crate::session_owner::SessionOwner;
 use crate::shared_map::{MapState, SharedMap};
-use blink_grow::{GrowError, GrowingMap, Room, Session, Unclosed};
 use blink_index::Index;
+use blink_map::{GrowError, GrowingMap, Room, Session, Unclosed};
 use blink_page::MIN_FAN;
 use std::alloc::{AllocError, Global};
 use std::mem;
@@ -155,7 +155,7 @@ impl MapOwner {
         }
     }
 
-    /// How many rows and page numbers the pool of the current map has left, as `GrowingMap::try_room` of `blink_grow` tells it. Sessions may
+    /// How many rows and page numbers the pool of the current map has left, as `GrowingMap::try_room` of `blink_map` tells it. Sessions may
     /// draw at any time, so the counts prove nothing.
     ///
     /// The call is refused with `Busy`, if the map was renewed at each look; and with `Closed`, if a close of the map has begun.
@@ -171,7 +171,7 @@ impl MapOwner {
         }
     }
 
-    /// Renews the map, as `GrowingMap::try_renew` of `blink_grow` does. Where some session rests, the entries are copied by it, so no search
+    /// Renews the map, as `GrowingMap::try_renew` of `blink_map` does. Where some session rests, the entries are copied by it, so no search
     /// waits for the copy. A map whose room is fixed is never renewed.
     pub fn renew(&self, alloc: Global, looks: u32) -> Result<(), MapRefusal>
         ensures refused { IfErr result (IsRenewFault self.now.state) }

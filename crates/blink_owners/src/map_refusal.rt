@@ -4,7 +4,7 @@ ghost use Rattle.blink_owners.specs.Codes.{code_of_outcome};
 ghost use Rattle.blink_owners.specs.MapCodes.{code_of, refusal_of};
 
 use crate::refusal::{Code, DONE};
-use blink_grow::GrowError;
+use blink_map::GrowError;
 
 /// Why a call on a map or its session is refused.
 #[derive(Clone, Copy, Debug, PartialEq, Eq)]
@@ -34,7 +34,7 @@ pub enum MapRefusal {
 }
 
 impl MapRefusal {
-    /// The refusal of a call of `blink_grow`.
+    /// The refusal of a call of `blink_map`.
     pub fn of(refusal: GrowError) -> MapRefusal
         ensures { result ≡ refusal_of refusal }
     {

@@ -2,7 +2,7 @@
 ghost use Rattle.std.specs.Prelude.{◌≡◌, IfErr, IfOk, IfSome, IsFalse, IsNone, IsSome, IsTrue, None, OnErr, OnOk, Some};
 ghost use mathlib.Core.List.{IsPrefix};
 ghost use Rattle.blink_batch.specs.{FitsWords};
-ghost use Rattle.blink_grow.specs.{IsHeldOf, IsPendingOf, IsRefusalOf, IsUpdate};
+ghost use Rattle.blink_map.specs.{IsHeldOf, IsPendingOf, IsRefusalOf, IsUpdate};
 ghost use Rattle.blink_owners.specs.Raw.{raw_answer};
 ghost use Rattle.blink_owners.specs.Sessions.{Answers, EndsFrom, Finds, HasAnswered, HasPut, HasStepped, IsAdvanceRefusal, IsAtHand, IsAway, IsChangeRefusal, IsEmpty, IsGripped, IsNotMade, IsNotPut, IsOfPut, IsOwnSession, IsPutRefusal, IsRested, IsStepRefusal, IsTakeRefusal, IsTakenOut, IsUnderWay, IsUntouched, KnowsSame, Puts, SeesMore, Scans, ScansBack, Takes, TellsStock, in_map, is_putting, known_in, place_in, put_in, tells_put};
 
@@ -10,7 +10,7 @@ use crate::map_refusal::MapRefusal;
 use crate::raw::{ABSENT, INSERTED, REMOVED, REPLACED, RawAnswer, RawScanned, RawStock, RawTaken};
 use crate::shared_map::SharedMap;
 use blink_batch::{Answer, Entry, Op};
-use blink_grow::{GrowError, Held, PendingHeld, RENEWALS, Session, StoppedHeld};
+use blink_map::{GrowError, Held, PendingHeld, RENEWALS, Session, StoppedHeld};
 use std::alloc::Global;
 use std::sync::Arc;
 
@@ -174,7 +174,7 @@ impl SessionOwner {
         }
     }
 
-    /// Begins an operation that changes the map, and takes its steps (`GrowingMap::start` of `blink_grow`). Where it meets nobody, it is
+    /// Begins an operation that changes the map, and takes its steps (`GrowingMap::start` of `blink_map`). Where it meets nobody, it is
     /// made at once, and the session stays where it is (`GrowingMap::try_change`). Where the map is full, the call renews it, and begins
     /// again, unless its room is fixed. Where a removal has left many empty leaves, it renews the map too, unless it can't for now.
     pub fn change(

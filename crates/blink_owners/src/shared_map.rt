@@ -1,8 +1,8 @@
 //! What the handles of a map and of its sessions share: the map, and the places of the sessions that nobody uses.
 ghost use Rattle.std.specs.Prelude.{◌≡◌, [], All, IfOk};
-ghost use Rattle.blink_grow.specs.{IsSessionOf, map_at};
+ghost use Rattle.blink_map.specs.{IsSessionOf, map_at};
 
-use blink_grow::{GrowingMap, Places, Session, Unclosed};
+use blink_map::{GrowingMap, Places, Session, Unclosed};
 use std::alloc::{AllocError, Global};
 use std::sync::Arc;
 

@@ -1,7 +1,7 @@
 use Rattle.std.proofs.Common.{◌≡◌, ◌∙◌, ap, refl, subst}
 use Rattle.std.specs.Arc.{arc_value}
-use Rattle.blink_grow.specs.declared.growing.GrowingMap.{GrowingMap}
-use Rattle.blink_grow.specs.{IsSessionOf}
+use Rattle.blink_map.specs.declared.growing.GrowingMap.{GrowingMap}
+use Rattle.blink_map.specs.{IsSessionOf}
 use Rattle.blink_owners.specs.declared.session_owner.SessionOwner.{SessionOwner}
 use Rattle.blink_owners.specs.declared.shared_map.SharedMap.{SharedMap}
 use Rattle.blink_owners.specs.Maps.{IsStateOf, map_in}

@@ -1,8 +1,8 @@
 use Rattle.std.proofs.Common.{◌∙◌, ap, sym}
 use Rattle.blink_batch.specs.{pointer_of}
 use Rattle.blink_live.specs.{after}
-use Rattle.blink_grow.specs.declared.slots.Known.{Known}
-use Rattle.blink_grow.specs.{known_by, opening_of, seen_by}
+use Rattle.blink_map.specs.declared.slots.Known.{Known}
+use Rattle.blink_map.specs.{known_by, opening_of, seen_by}
 use Rattle.blink_owners.specs.declared.shared_map.SharedMap.{SharedMap}
 use Rattle.blink_owners.specs.Sessions.{in_map}
 use Rattle.blink_owners.specs.Raw.{raw_shown}

@@ -1,7 +1,7 @@
 use Rattle.std.proofs.Common.{IfSome, Option, is_some, ◌∙◌, ap, subst, sym}
-use Rattle.blink_grow.specs.declared.growing.GrowingMap.{GrowingMap}
-use Rattle.blink_grow.specs.declared.growing.Session.{Session}
-use Rattle.blink_grow.specs.{IsSessionOf}
+use Rattle.blink_map.specs.declared.growing.GrowingMap.{GrowingMap}
+use Rattle.blink_map.specs.declared.growing.Session.{Session}
+use Rattle.blink_map.specs.{IsSessionOf}
 use Rattle.blink_owners.specs.declared.shared_map.SharedMap.{SharedMap}
 use Rattle.blink_owners.specs.Sessions.{IsAtHand, in_map}
 use Rattle.blink_owners.specs.declared.session_owner.SessionOwner.{SessionOwner}

@@ -1,6 +1,6 @@
 use Rattle.std.proofs.Common.{◌≡◌}
 use Rattle.blink_batch.specs.{FitsWords}
-use Rattle.blink_grow.specs.{IsUpdate}
+use Rattle.blink_map.specs.{IsUpdate}
 use Rattle.blink_owners.specs.Sessions.{HasSeenMore, IsOfPut, IsOwnSession}
 use Rattle.blink_owners.proofs.session_owner.SessionOwner.put_from.Given as goal
 

@@ -1,7 +1,7 @@
 use Rattle.std.proofs.Common.{subst, sym, take}
 use Rattle.blink_live.specs.{IsReport, stop_of}
-use Rattle.blink_grow.specs.declared.slots.Known.{Known}
-use Rattle.blink_grow.specs.{known_by, known_to, opening_of, seen_by}
+use Rattle.blink_map.specs.declared.slots.Known.{Known}
+use Rattle.blink_map.specs.{known_by, known_to, opening_of, seen_by}
 use Rattle.blink_owners.specs.declared.shared_map.SharedMap.{SharedMap}
 use Rattle.blink_owners.specs.Sessions.{in_map}
 use Rattle.blink_owners.proofs.SessionsStay.{away_busy, away_free, continued_same, held_knows, sees_free, sees_held, was_free, was_held}

@@ -1,5 +1,5 @@
 use Rattle.std.proofs.Common.{◌∙◌, Some, ap, inl, inr, subst, sym}
-use Rattle.blink_grow.specs.{opening_of, seen_by}
+use Rattle.blink_map.specs.{opening_of, seen_by}
 use Rattle.blink_owners.specs.declared.session_owner.SessionOwner.{SessionOwner}
 use Rattle.blink_owners.specs.declared.shared_map.SharedMap.{SharedMap}
 use Rattle.blink_owners.specs.MapCodes.{refusal_of}

@@ -1,8 +1,8 @@
 use Rattle.std.proofs.Common.{◌≡◌, ◌∙◌, Some, None, is_some, ap, inl, inr, refl, subst, sym}
-use Rattle.blink_grow.specs.declared.growing.GrowingMap.{GrowingMap}
-use Rattle.blink_grow.specs.declared.held.Held.{Held}
-use Rattle.blink_grow.specs.declared.slots.Known.{Known}
-use Rattle.blink_grow.specs.{HasBegun, HasStopped, IsAnsweredHeld, IsContinued, IsHeldOf, IsSessionOf, known_by, place_of_held}
+use Rattle.blink_map.specs.declared.growing.GrowingMap.{GrowingMap}
+use Rattle.blink_map.specs.declared.held.Held.{Held}
+use Rattle.blink_map.specs.declared.slots.Known.{Known}
+use Rattle.blink_map.specs.{HasBegun, HasStopped, IsAnsweredHeld, IsContinued, IsHeldOf, IsSessionOf, known_by, place_of_held}
 use Rattle.blink_owners.specs.declared.session_owner.SessionOwner.{SessionOwner}
 use Rattle.blink_owners.specs.declared.session_owner.UnderWay.{UnderWay}
 use Rattle.blink_owners.specs.declared.shared_map.SharedMap.{SharedMap}

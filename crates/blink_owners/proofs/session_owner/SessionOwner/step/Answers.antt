@@ -1,6 +1,6 @@
 use Rattle.std.proofs.Common.{◌∙◌, Option, Some, ap, refl, subst, sym}
-use Rattle.blink_grow.specs.declared.growing.GrowingMap.{GrowingMap}
-use Rattle.blink_grow.specs.{IsAnsweredHeld, held_of, known_by, op_of, place_of_held}
+use Rattle.blink_map.specs.declared.growing.GrowingMap.{GrowingMap}
+use Rattle.blink_map.specs.{IsAnsweredHeld, held_of, known_by, op_of, place_of_held}
 use Rattle.blink_owners.specs.declared.map_refusal.MapRefusal.TheVariants.{UnderWay as StillUnderWay}
 use Rattle.blink_owners.specs.declared.session_owner.SessionOwner.{SessionOwner}
 use Rattle.blink_owners.specs.declared.session_owner.UnderWay.{UnderWay}

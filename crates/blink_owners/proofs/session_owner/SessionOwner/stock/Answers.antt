@@ -1,6 +1,6 @@
 use Rattle.std.proofs.Common.{◌∙◌, ap, refl, subst, sym}
-use Rattle.blink_grow.specs.declared.growing.GrowingMap.{GrowingMap}
-use Rattle.blink_grow.specs.{IsHeldOf, known_by}
+use Rattle.blink_map.specs.declared.growing.GrowingMap.{GrowingMap}
+use Rattle.blink_map.specs.{IsHeldOf, known_by}
 use Rattle.blink_owners.specs.Raw.{raw_stock}
 use Rattle.blink_owners.proofs.SessionsStay.{continued_same, known_at_rest, map_taken}
 use Rattle.blink_owners.proofs.session_owner.SessionOwner.stock.Goals as goal

@@ -1,8 +1,0 @@
-use Rattle.blink_grow.specs.{IsSameBesideSeen}
-use Rattle.blink_grow_laws.proofs.counter.raise.Given as goal
-
-abbrev pub invariant-loop : goal.invariant-loop
-invariant-loop g l = record {
-  turns : (goal.iterator-loop g).can_next l.iterator' × (goal.iterator-loop g).is_finite l.iterator';
-  tried : IsSameBesideSeen l.fn.session l.session;
-}

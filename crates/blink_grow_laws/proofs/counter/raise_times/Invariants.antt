@@ -1,9 +1,0 @@
-use Rattle.blink_grow.specs.{IsSessionOf}
-use Rattle.blink_grow_laws.specs.Counting.{HasRaised}
-use Rattle.blink_grow_laws.proofs.counter.raise_times.Given as goal
-
-abbrev pub invariant-loop-done : goal.invariant-loop-done
-invariant-loop-done g l = record {
-  its_own : IsSessionOf l.map l.session;
-  raised : HasRaised l.map l.key l.done l.fn.session l.session;
-}

@@ -1,6 +1,0 @@
-use Rattle.std.specs.Prelude.{All}
-use Rattle.blink_grow.specs.{IsSessionOf}
-use Rattle.blink_grow_tests.proofs.parts.insert_by_each.Given as goal
-
-abbrev pub invariant-loop-key : goal.invariant-loop-key
-invariant-loop-key g l = All (IsSessionOf l.map) l.sessions.items

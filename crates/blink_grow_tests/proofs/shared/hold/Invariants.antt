@@ -1,5 +1,0 @@
-use Rattle.blink_grow.specs.{IsSessionOf}
-use Rattle.blink_grow_tests.proofs.shared.hold.Given as goal
-
-abbrev pub invariant-loop : goal.invariant-loop
-invariant-loop g l = IsSessionOf l.map l.session

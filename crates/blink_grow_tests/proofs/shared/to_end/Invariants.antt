@@ -1,5 +1,0 @@
-use Rattle.blink_grow.specs.{IsPendingOf}
-use Rattle.blink_grow_tests.proofs.shared.to_end.Given as goal
-
-abbrev pub invariant-loop : goal.invariant-loop
-invariant-loop g l = IsPendingOf l.map l.pending

@@ -1,5 +1,0 @@
-use Rattle.blink_grow.specs.{IsSessionOf}
-use Rattle.blink_grow_tests.proofs.threads.change_own.Given as goal
-
-abbrev pub invariant-loop-turn : goal.invariant-loop-turn
-invariant-loop-turn g l = IsSessionOf l.map l.session

@@ -1,0 +1,28 @@
+use Rattle.std.proofs.Common.{refl, subst}
+use Rattle.std.specs.Prelude.{take}
+use Rattle.blink_live.specs.{IsReportBack, start_of}
+use Rattle.blink_generation.specs.declared.map.Map.{Map}
+use Rattle.blink_generation.specs.{opening_of, seen_by}
+use Rattle.blink_map.proofs.HeldSessions.{held_again, knows_more, report_back_whole}
+use Rattle.blink_map.proofs.growing.GrowingMap.scan_back_held.Goals as goal
+
+pub invariant_of-held : goal.invariant_of-held
+invariant_of-held c =
+    let old = c.args.held.now in
+    let same = c.scan_back.ensures.same in
+    record { held = held_again old.slot old.seat.me old.current old.held c.scan_back.new.session same.saw same.same_member same.made; in_range = old.in_range; all_slots = old.all_slots }
+
+pub returns-clause-report : goal.returns-clause-report
+returns-clause-report c =
+    let old = c.args.held.now in
+    let session = c.scan_back.new.session in
+    let scanned = c.scan_back.result in
+    let entries = take scanned.filled c.scan_back.new.into in
+    let told = subst (λ (m : Map). IsReportBack (opening_of m) (seen_by old.current.session) (seen_by session) (start_of c.args.lo scanned.next) c.args.hi entries) c.deref.ensures c.scan_back.ensures.report in
+    report_back_whole old.slot old.seat.me old.current old.held session _ c.requires.its_own.same_first (start_of c.args.lo scanned.next) c.args.hi entries c.ranges.hi.fits told
+
+pub returns-clause-same : goal.returns-clause-same
+returns-clause-same c =
+    let old = c.args.held.now in
+    let same = c.scan_back.ensures.same in
+    record { same_place = record { same_table = refl; same_first = refl; same_place = refl }; knows = knows_more old.slot old.seat.me old.current old.held c.scan_back.new.session same.saw same.made }
