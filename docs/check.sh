@@ -231,7 +231,7 @@ awk '
     /\.(join|join_all|take_session)\(|Places::(join|join_all|take_session)\(/ {
         if (name !~ /^(join|gather|blink_map_join|blink_map_join_alone|blink_reader_join)$/)
             print FILENAME ":" FNR ": " name " takes a session that rests: only join and gather do"
-    }' crates/blink_owners/src/*.rt crates/blink_c/src/*.rt >>"$work/found"
+    }' crates/blink_handles/src/*.rt crates/blink_c/src/*.rt >>"$work/found"
 
 # Rooms: C, Rust and Python count the same for a session, page numbers for a draw and for an insertion's 22.
 drawn=$(sed -n 's/^pub(crate) const PAGE_CHUNK: u64 = \([0-9]*\);/\1/p' crates/blink_generation/src/waiting.rt)

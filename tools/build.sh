@@ -76,7 +76,7 @@ output_of() {
 # processors would be idle, since all other crates that are left wait for this one or are few: bench/README.md tells what other numbers gave.
 jobs_of() {
     case $1 in
-    blink_c | blink_map | blink_live | blink_generation | blink_owners | blink_run | index_main) echo "$processors" ;;
+    blink_c | blink_map | blink_live | blink_generation | blink_handles | blink_run | index_main) echo "$processors" ;;
     blink_machine) echo $(((processors + 1) / 2)) ;;
     *) echo 1 ;;
     esac

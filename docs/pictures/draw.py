@@ -122,7 +122,7 @@ OPERATIONS = [("insert 81", 0, 1, 37, 7), ("insert 43", 1, 10, 16, 15), ("insert
 # the bands of the crates, each with its lowest and its highest row, and where each crate stands: its column, and its row from below
 BANDS = (("programs and library", 12.9, 16.1), ("runs", 9.1, 12.6), ("threads", 6.3, 8.95), ("memory", 4.35, 5.9), ("tree", -0.5, 3.95))
 CRATES = {
-    "index_main": (1.35, 15.4), "show_main": (2.9, 15.4), "blink_c": (5.97, 15.4), "blink_owners": (5.97, 14.5), "show_command": (2.3, 14.5),
+    "index_main": (1.35, 15.4), "show_main": (2.9, 15.4), "blink_c": (5.97, 15.4), "blink_handles": (5.97, 14.5), "show_command": (2.3, 14.5),
     "blink_command": (1.2, 13.6), "blink_show": (3.9, 13.6), "blink_run": (2.6, 12.0), "blink_locked": (1.9, 10.8),
     "blink_replay": (4.6, 10.8), "blink_settings": (1.1, 9.6), "blink_steps": (3.3, 9.6), "blink_client": (3.95, 8.3),
     "blink_generation": (5.97, 7.4), "blink_map": (5.3, 8.08), "blink_map_laws": (5.95, 8.9),

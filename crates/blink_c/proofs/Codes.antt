@@ -1,6 +1,6 @@
 -- What the code of a call tells.
 use Rattle.std.proofs.Common.{◌≡◌, ◌≢◌, ℕ, Result, Ok, Err, IfErr, OnErr, OnOk, sym, ◌∙◌}
-use Rattle.blink_owners.specs.Codes.{TellsWhy, code_of_outcome}
+use Rattle.blink_handles.specs.Codes.{TellsWhy, code_of_outcome}
 
 -- code 0 tells what holds of a call that isn't refused, where no refusal has this code
 pub on_done : {R P : Type 0} (code : R → ℕ) → ((refusal : R) → code refusal ≡ 0 → ⊥) → (outcome : Result (Unit {0}) R) (given : ℕ)

@@ -1,8 +1,8 @@
 -- The codes of the refusals of a map or its session.
 use Rattle.std.proofs.Common.{◌≡◌, arith}
-use Rattle.blink_owners.specs.declared.map_refusal.MapRefusal.{MapRefusal}
-use Rattle.blink_owners.specs.declared.map_refusal.MapRefusal.TheVariants.{OutOfMemory, TooLarge, Sessions, NoSession, Busy, Full, RowsBusy, Missing, UnderWay, Idle, Closed}
-use Rattle.blink_owners.specs.MapCodes.{code_of}
+use Rattle.blink_handles.specs.declared.map_refusal.MapRefusal.{MapRefusal}
+use Rattle.blink_handles.specs.declared.map_refusal.MapRefusal.TheVariants.{OutOfMemory, TooLarge, Sessions, NoSession, Busy, Full, RowsBusy, Missing, UnderWay, Idle, Closed}
+use Rattle.blink_handles.specs.MapCodes.{code_of}
 
 -- no refusal has the code of a call that isn't refused
 pub not_done : (refusal : MapRefusal) → code_of refusal ≡ 0 → ⊥

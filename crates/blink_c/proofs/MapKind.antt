@@ -8,8 +8,8 @@ use denote.Param.{layout}
 use denote.Param.Laws.{arg_laws}
 use Rattle.std.specs.Prelude.{Some}
 use Rattle.blink_c.specs.MapLending.{with_value}
-use Rattle.blink_owners.specs.contracts.map_owner.MapOwner.{the_row as Owner}
-use Rattle.blink_owners.proofs.map_owner.MapOwner.TheLaws.{the_row_laws}
+use Rattle.blink_handles.specs.contracts.map_owner.MapOwner.{the_row as Owner}
+use Rattle.blink_handles.proofs.map_owner.MapOwner.TheLaws.{the_row_laws}
 use Rattle.blink_c.specs.contracts.map_handle.MapHandle as Handle
 use Rattle.blink_c.specs.contracts.map_slot.MapSlot as Slot
 use Rattle.blink_c.proofs.HandleKind.{Kind, SlotOf}

@@ -9,8 +9,8 @@ use denote.Param.{layout}
 use denote.Param.Laws.{arg_laws}
 use Rattle.std.specs.Prelude.{Option, None, Some}
 use Rattle.blink_c.specs.ReaderLending.{with_value}
-use Rattle.blink_owners.specs.contracts.reader_owner.ReaderOwner.{the_row as Owner}
-use Rattle.blink_owners.proofs.reader_owner.ReaderOwner.TheLaws.{the_row_laws}
+use Rattle.blink_handles.specs.contracts.reader_owner.ReaderOwner.{the_row as Owner}
+use Rattle.blink_handles.proofs.reader_owner.ReaderOwner.TheLaws.{the_row_laws}
 use Rattle.blink_c.specs.contracts.reader_handle.ReaderHandle as Handle
 use Rattle.blink_c.specs.contracts.reader_slot.ReaderSlot as Slot
 use Rattle.blink_c.proofs.HandleKind.{Kind, SlotOf, TakesFrom}

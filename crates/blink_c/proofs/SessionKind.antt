@@ -8,8 +8,8 @@ use denote.Param.{layout}
 use denote.Param.Laws.{arg_laws}
 use Rattle.std.specs.Prelude.{Some}
 use Rattle.blink_c.specs.SessionLending.{with_value}
-use Rattle.blink_owners.specs.contracts.session_owner.SessionOwner.{the_row as Owner}
-use Rattle.blink_owners.proofs.session_owner.SessionOwner.TheLaws.{the_row_laws}
+use Rattle.blink_handles.specs.contracts.session_owner.SessionOwner.{the_row as Owner}
+use Rattle.blink_handles.proofs.session_owner.SessionOwner.TheLaws.{the_row_laws}
 use Rattle.blink_c.specs.contracts.session_handle.SessionHandle as Handle
 use Rattle.blink_c.specs.contracts.session_slot.SessionSlot as Slot
 use Rattle.blink_c.proofs.HandleKind.{Kind, SlotOf}

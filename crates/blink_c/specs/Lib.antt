@@ -1,4 +1,4 @@
--- What the exports of `blink_c` promise stands in the definitions of `blink_owners`, whose Lib.antt lists them. No crate stands on this
+-- What the exports of `blink_c` promise stands in the definitions of `blink_handles`, whose Lib.antt lists them. No crate stands on this
 -- one: its callers are C and Rust programs.
 
 -- ---- files that no crate above names

@@ -1,6 +1,6 @@
 -- What the handle of a map is once the map that it lent comes back.
 use Rattle.std.specs.Borrow.{Lends, MutBor, Fml}
-use Rattle.blink_owners.specs.contracts.map_owner.MapOwner as owner
+use Rattle.blink_handles.specs.contracts.map_owner.MapOwner as owner
 use Rattle.blink_c.specs.declared.map_handle.MapHandle.{MapHandle}
 use Rattle.blink_c.specs.contracts.map_handle.MapHandle.{the_row}
 

@@ -7,7 +7,7 @@ use Rattle.std.specs.Coded.{coded_option}
 use Rattle.std.specs.Box.Ownership.{box_owns}
 use Rattle.std.specs.declared.alloc.Global.{Global}
 use Rattle.std.specs.contracts.impls.GlobalAllocator.TheImpl.{ghosts}
-use Rattle.blink_owners.specs.contracts.map_owner.MapOwner as owner
+use Rattle.blink_handles.specs.contracts.map_owner.MapOwner as owner
 
 -- how the value of a map is stored
 abbrev pub map_coded : Coded owner.the_row.Denot

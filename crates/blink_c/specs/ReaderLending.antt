@@ -1,6 +1,6 @@
 -- What the handle of a reader is once the reader that it lent comes back.
 use Rattle.std.specs.Borrow.{Lends, MutBor, Fml}
-use Rattle.blink_owners.specs.contracts.reader_owner.ReaderOwner as owner
+use Rattle.blink_handles.specs.contracts.reader_owner.ReaderOwner as owner
 use Rattle.blink_c.specs.declared.reader_handle.ReaderHandle.{ReaderHandle}
 use Rattle.blink_c.specs.contracts.reader_handle.ReaderHandle.{the_row}
 

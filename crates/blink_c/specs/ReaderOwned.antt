@@ -7,7 +7,7 @@ use Rattle.std.specs.Coded.{coded_option}
 use Rattle.std.specs.Box.Ownership.{box_owns}
 use Rattle.std.specs.declared.alloc.Global.{Global}
 use Rattle.std.specs.contracts.impls.GlobalAllocator.TheImpl.{ghosts}
-use Rattle.blink_owners.specs.contracts.reader_owner.ReaderOwner as owner
+use Rattle.blink_handles.specs.contracts.reader_owner.ReaderOwner as owner
 
 -- how the value of a reader is stored
 abbrev pub reader_coded : Coded owner.the_row.Denot

@@ -1,6 +1,6 @@
 -- What the handle of a session is once the session that it lent comes back.
 use Rattle.std.specs.Borrow.{Lends, MutBor, Fml}
-use Rattle.blink_owners.specs.contracts.session_owner.SessionOwner as owner
+use Rattle.blink_handles.specs.contracts.session_owner.SessionOwner as owner
 use Rattle.blink_c.specs.declared.session_handle.SessionHandle.{SessionHandle}
 use Rattle.blink_c.specs.contracts.session_handle.SessionHandle.{the_row}
 

@@ -7,7 +7,7 @@ use Rattle.std.specs.Coded.{coded_option}
 use Rattle.std.specs.Box.Ownership.{box_owns}
 use Rattle.std.specs.declared.alloc.Global.{Global}
 use Rattle.std.specs.contracts.impls.GlobalAllocator.TheImpl.{ghosts}
-use Rattle.blink_owners.specs.contracts.session_owner.SessionOwner as owner
+use Rattle.blink_handles.specs.contracts.session_owner.SessionOwner as owner
 
 -- how the value of a session is stored
 abbrev pub session_coded : Coded owner.the_row.Denot

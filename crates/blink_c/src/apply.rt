@@ -1,12 +1,12 @@
 //! The export that carries operations out on an index in place, up to the first that is refused.
 ghost use Rattle.std.specs.Prelude.{◌≡◌, length};
-ghost use Rattle.blink_owners.specs.Codes.{TellsWhy, code_of};
-ghost use Rattle.blink_owners.specs.{HasApplied, IsApplyRefusal};
+ghost use Rattle.blink_handles.specs.Codes.{TellsWhy, code_of};
+ghost use Rattle.blink_handles.specs.{HasApplied, IsApplyRefusal};
 
 use crate::index_handle::IndexHandle;
-use blink_owners::apply::apply;
-use blink_owners::raw::{RawAnswer, RawOperation};
-use blink_owners::refusal::{Code, code_of};
+use blink_handles::apply::apply;
+use blink_handles::raw::{RawAnswer, RawOperation};
+use blink_handles::refusal::{Code, code_of};
 use std::alloc::Global;
 
 /// Carries operations out in place, one after another, up to the first that is refused, and gives the answer of each at its

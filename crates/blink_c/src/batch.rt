@@ -1,12 +1,12 @@
 //! The export that runs a batch over an index by one thread, in the order of its operations.
 ghost use Rattle.std.specs.Prelude.{◌≡◌, ◌≢◌, length};
-ghost use Rattle.blink_owners.specs.Codes.{TellsWhy, code_of};
-ghost use Rattle.blink_owners.specs.{HasRun, IsRunRefusal};
+ghost use Rattle.blink_handles.specs.Codes.{TellsWhy, code_of};
+ghost use Rattle.blink_handles.specs.{HasRun, IsRunRefusal};
 
 use crate::index_handle::IndexHandle;
-use blink_owners::batch::run;
-use blink_owners::raw::{RawAnswer, RawOperation};
-use blink_owners::refusal::{Code, code_of};
+use blink_handles::batch::run;
+use blink_handles::raw::{RawAnswer, RawOperation};
+use blink_handles::refusal::{Code, code_of};
 use std::alloc::Global;
 
 /// Runs a batch of operations on the index, one after another, and gives the answer of each at its place. A refusal leaves the

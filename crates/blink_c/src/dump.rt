@@ -1,12 +1,12 @@
 //! The export that gives the tree as text.
 ghost use Rattle.std.specs.Prelude.{◌≡◌, ◌≢◌, length};
 ghost use Rattle.blink_index.specs.{text_of_store};
-ghost use Rattle.blink_owners.specs.Codes.{code_of};
-ghost use Rattle.blink_owners.specs.{put_if_fits};
+ghost use Rattle.blink_handles.specs.Codes.{code_of};
+ghost use Rattle.blink_handles.specs.{put_if_fits};
 
 use crate::index_handle::IndexHandle;
-use blink_owners::reads;
-use blink_owners::refusal::{Code, Refusal};
+use blink_handles::reads;
+use blink_handles::refusal::{Code, Refusal};
 use std::alloc::Global;
 
 /// Gives the tree as text, if all of it fits, and stores how many bytes it has.

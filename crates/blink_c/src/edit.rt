@@ -4,14 +4,14 @@ ghost use Rattle.std.specs.Prelude.{◌≡◌, ◌≢◌, ◌↔◌, ◌≤◌, 
 ghost use Rattle.blink_batch.specs.declared.Op.TheVariants.{Delete, DeleteExact, Exchange, Insert, Replace};
 ghost use Rattle.blink_index.specs.{IsInOrder, NeedsPages, first_of, is_above, is_below, is_from, is_up_to, last_of, map_of};
 ghost use Rattle.blink_page.specs.{ExceedsPageLimit};
-ghost use Rattle.blink_owners.specs.Codes.{code_of};
-ghost use Rattle.blink_owners.specs.{HasEdited, HasPagesFor, TellsEditFault, entry_or};
+ghost use Rattle.blink_handles.specs.Codes.{code_of};
+ghost use Rattle.blink_handles.specs.{HasEdited, HasPagesFor, TellsEditFault, entry_or};
 
 use crate::index_handle::IndexHandle;
+use blink_handles::raw::{RawAnswer, RawEntry};
+use blink_handles::reads::give_entry;
+use blink_handles::refusal::{Code, DONE, Refusal};
 use blink_index::EditError;
-use blink_owners::raw::{RawAnswer, RawEntry};
-use blink_owners::reads::give_entry;
-use blink_owners::refusal::{Code, DONE, Refusal};
 use std::alloc::Global;
 
 /// Adds a key with its pointer in place, unless the key is present, and gives the answer. A refusal leaves the index and the

@@ -4,16 +4,16 @@ ghost use Rattle.blink_batch.specs.{pointer_of};
 ghost use Rattle.blink_index.specs.{map_of};
 ghost use Rattle.blink_page.specs.{IsBadFan, IsPageNumber};
 ghost use Rattle.blink_store.specs.{new_store};
-ghost use Rattle.blink_owners.specs.Codes.{TellsNewFault, code_of};
-ghost use Rattle.blink_owners.specs.{found_answer, pointer_or};
+ghost use Rattle.blink_handles.specs.Codes.{TellsNewFault, code_of};
+ghost use Rattle.blink_handles.specs.{found_answer, pointer_or};
 
 use crate::index_handle::IndexHandle;
 use crate::index_slot::IndexSlot;
+use blink_handles::make::new_index;
+use blink_handles::raw::RawAnswer;
+use blink_handles::reads;
+use blink_handles::refusal::{Code, DONE, Refusal};
 use blink_index::Index;
-use blink_owners::make::new_index;
-use blink_owners::raw::RawAnswer;
-use blink_owners::reads;
-use blink_owners::refusal::{Code, DONE, Refusal};
 use std::alloc::Global;
 
 /// Makes an index without an entry, whose pages will have at most `fan` entries each.

@@ -1,4 +1,4 @@
-//! The index and the map for programs in C and Rust: a static library whose exports each call a call of `blink_owners` or
+//! The index and the map for programs in C and Rust: a static library whose exports each call a call of `blink_handles` or
 //! `blink_index`, and turn its answer into a code. `include/blink.h` and `include/blink_bindings.h` declare them.
 #![tactic(auto)]
 

@@ -1,16 +1,16 @@
 //! The exports that make an index of entries.
 ghost use Rattle.std.specs.Prelude.{◌≡◌, ◌≢◌, None, IsSome, IfSome, length};
 ghost use Rattle.blink_index.specs.{IsInOrder, NeedsPages, map_of};
-ghost use Rattle.blink_owners.specs.Codes.{TellsWhy, code_of};
-ghost use Rattle.blink_owners.specs.{HasEntriesOf, HasPagesOf, IsMakeRefusal, TellsSortedFault};
+ghost use Rattle.blink_handles.specs.Codes.{TellsWhy, code_of};
+ghost use Rattle.blink_handles.specs.{HasEntriesOf, HasPagesOf, IsMakeRefusal, TellsSortedFault};
 
 use crate::index::fill;
 use crate::index_slot::IndexSlot;
 use blink_batch::Entry;
+use blink_handles::make::{index_of, packed};
+use blink_handles::raw::RawEntry;
+use blink_handles::refusal::{Code, DONE};
 use blink_index::SortedError;
-use blink_owners::make::{index_of, packed};
-use blink_owners::raw::RawEntry;
-use blink_owners::refusal::{Code, DONE};
 use std::alloc::Global;
 
 /// Makes an index of entries in any order. Of two with one key the first stays.

@@ -2,21 +2,21 @@
 ghost use Rattle.std.specs.Prelude.{◌≡◌, ◌≢◌, ◌↔◌, None, IfSome, IsFalse, IsSome, length};
 ghost use Rattle.blink_map.specs.{WhyNotInRoom, WhyNotOpened, is_fixed};
 ghost use Rattle.blink_index.specs.{map_of};
-ghost use Rattle.blink_owners.specs.Codes.{TellsWhy};
-ghost use Rattle.blink_owners.specs.MapCodes.{code_of};
-ghost use Rattle.blink_owners.specs.Maps.{CanClose, IsClosedMap, IsCloseFault, IsJoinFault, IsNewMap, IsOpenFault, IsOpenFixed, IsOwnMap, IsOwnerOfSame, IsRenewFault, IsRoomFault, IsShareFault, Joins, map_in, places_for};
-ghost use Rattle.blink_owners.specs.declared.map_owner.TheConstants.{PLACES};
-ghost use Rattle.blink_owners.specs.Sessions.{IsOwnSession};
+ghost use Rattle.blink_handles.specs.Codes.{TellsWhy};
+ghost use Rattle.blink_handles.specs.MapCodes.{code_of};
+ghost use Rattle.blink_handles.specs.Maps.{CanClose, IsClosedMap, IsCloseFault, IsJoinFault, IsNewMap, IsOpenFault, IsOpenFixed, IsOwnMap, IsOwnerOfSame, IsRenewFault, IsRoomFault, IsShareFault, Joins, map_in, places_for};
+ghost use Rattle.blink_handles.specs.declared.map_owner.TheConstants.{PLACES};
+ghost use Rattle.blink_handles.specs.Sessions.{IsOwnSession};
 
 use crate::index_handle::IndexHandle;
 use crate::index_slot::IndexSlot;
 use crate::map_handle::MapHandle;
 use crate::map_slot::MapSlot;
 use crate::session_slot::SessionSlot;
+use blink_handles::map_owner::MapOwner;
+use blink_handles::map_refusal::code_of;
+use blink_handles::refusal::{Code, DONE};
 use blink_map::Room;
-use blink_owners::map_owner::MapOwner;
-use blink_owners::map_refusal::code_of;
-use blink_owners::refusal::{Code, DONE};
 use std::alloc::Global;
 
 /// Opens a map over the index. The map grows as it has to.

@@ -1,9 +1,9 @@
 //! The handle of a map.
 ghost use Rattle.std.specs.Prelude.{◌≡◌};
-ghost use Rattle.blink_owners.specs.declared.map_owner.MapOwner.{MapOwner};
+ghost use Rattle.blink_handles.specs.declared.map_owner.MapOwner.{MapOwner};
 ghost use Rattle.blink_c.specs.MapOwned.{handle_owns, map_coded};
 
-use blink_owners::map_owner::MapOwner;
+use blink_handles::map_owner::MapOwner;
 use std::alloc::Global;
 use std::marker::Model;
 

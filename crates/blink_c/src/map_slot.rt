@@ -1,10 +1,10 @@
 //! Where the caller gets the handle of a map.
 ghost use Rattle.std.specs.Prelude.{◌≡◌, Option, Some};
-ghost use Rattle.blink_owners.specs.declared.map_owner.MapOwner.{MapOwner};
+ghost use Rattle.blink_handles.specs.declared.map_owner.MapOwner.{MapOwner};
 ghost use Rattle.blink_c.specs.MapOwned.{slot_coded, slot_owns};
 
 use crate::parts::Parts;
-use blink_owners::map_owner::MapOwner;
+use blink_handles::map_owner::MapOwner;
 use std::alloc::Global;
 use std::marker::Model;
 

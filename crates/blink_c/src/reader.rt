@@ -3,16 +3,16 @@ ghost use Rattle.std.specs.Prelude.{◌≡◌, ◌≢◌, ◌↔◌, None, Some,
 ghost use Rattle.blink_batch.specs.{pointer_of};
 ghost use Rattle.blink_index.specs.{first_of, is_above, is_below, is_from, is_up_to, is_within, last_of, map_of, text_of_store};
 ghost use Rattle.blink_page.specs.{IsPageNumber};
-ghost use Rattle.blink_owners.specs.Codes.{code_of};
-ghost use Rattle.blink_owners.specs.{entry_or, found_answer, index_at, index_in, overlaid, pointer_or, put_if_fits, told_of};
+ghost use Rattle.blink_handles.specs.Codes.{code_of};
+ghost use Rattle.blink_handles.specs.{entry_or, found_answer, index_at, index_in, overlaid, pointer_or, put_if_fits, told_of};
 
 use crate::index_slot::IndexSlot;
 use crate::reader_handle::ReaderHandle;
 use crate::reader_slot::ReaderSlot;
-use blink_owners::raw::{RawAnswer, RawEntry, RawScanned};
-use blink_owners::reader_owner::ReaderOwner;
-use blink_owners::reads;
-use blink_owners::refusal::{Code, DONE, Refusal};
+use blink_handles::raw::{RawAnswer, RawEntry, RawScanned};
+use blink_handles::reader_owner::ReaderOwner;
+use blink_handles::reads;
+use blink_handles::refusal::{Code, DONE, Refusal};
 use std::alloc::Global;
 
 /// Makes the index one that is only read, and gives its first reader. The index's place is empty then. No entry is copied.

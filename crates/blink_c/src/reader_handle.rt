@@ -1,9 +1,9 @@
 //! The handle of a reader.
 ghost use Rattle.std.specs.Prelude.{◌≡◌};
-ghost use Rattle.blink_owners.specs.declared.reader_owner.ReaderOwner.{ReaderOwner};
+ghost use Rattle.blink_handles.specs.declared.reader_owner.ReaderOwner.{ReaderOwner};
 ghost use Rattle.blink_c.specs.ReaderOwned.{handle_owns, reader_coded};
 
-use blink_owners::reader_owner::ReaderOwner;
+use blink_handles::reader_owner::ReaderOwner;
 use std::alloc::Global;
 use std::marker::Model;
 

@@ -1,11 +1,11 @@
 //! Where the caller gets the handle of a reader.
 ghost use Rattle.std.specs.Prelude.{◌≡◌, IsSome, None, Option, Some};
-ghost use Rattle.blink_owners.specs.declared.reader_owner.ReaderOwner.{ReaderOwner};
+ghost use Rattle.blink_handles.specs.declared.reader_owner.ReaderOwner.{ReaderOwner};
 ghost use Rattle.blink_c.specs.ReaderOwned.{slot_coded, slot_owns};
 
 use crate::parts::Parts;
 use crate::reader_handle::ReaderHandle;
-use blink_owners::reader_owner::ReaderOwner;
+use blink_handles::reader_owner::ReaderOwner;
 use std::alloc::Global;
 use std::marker::Model;
 use std::{mem, ptr};

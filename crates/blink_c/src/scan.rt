@@ -1,12 +1,12 @@
 //! The exports that give entries in the order of their keys or from the greatest key down, and that count them.
 ghost use Rattle.std.specs.Prelude.{◌≡◌, filter, length, reverse};
 ghost use Rattle.blink_index.specs.{is_within, map_of};
-ghost use Rattle.blink_owners.specs.{overlaid, told_of};
+ghost use Rattle.blink_handles.specs.{overlaid, told_of};
 
 use crate::index_handle::IndexHandle;
-use blink_owners::raw::{RawEntry, RawScanned};
-use blink_owners::reads;
-use blink_owners::refusal::{Code, DONE};
+use blink_handles::raw::{RawEntry, RawScanned};
+use blink_handles::reads;
+use blink_handles::refusal::{Code, DONE};
 
 /// Gives the entries whose keys are from `lo` to `hi`, as many as there are places, and tells how far it came. It is never refused.
 #[unsafe(no_mangle)]

@@ -3,17 +3,17 @@ ghost use Rattle.std.specs.Prelude.{◌≡◌, ◌≢◌};
 ghost use Rattle.blink_batch.specs.{FitsWords};
 ghost use Rattle.blink_batch.specs.declared.Op.TheVariants.{Delete, DeleteExact, Exchange, Insert, Replace};
 ghost use Rattle.blink_generation.specs.{IsUpdate};
-ghost use Rattle.blink_owners.specs.Codes.{TellsWhy};
-ghost use Rattle.blink_owners.specs.MapCodes.{code_of};
-ghost use Rattle.blink_owners.specs.Sessions.{EndsFrom, Finds, IsAdvanceRefusal, IsAway, IsOwnSession, IsPutRefusal, IsTakeRefusal, KnowsSame, Puts, Scans, ScansBack, SeesMore, Takes, TellsStock, in_map};
+ghost use Rattle.blink_handles.specs.Codes.{TellsWhy};
+ghost use Rattle.blink_handles.specs.MapCodes.{code_of};
+ghost use Rattle.blink_handles.specs.Sessions.{EndsFrom, Finds, IsAdvanceRefusal, IsAway, IsOwnSession, IsPutRefusal, IsTakeRefusal, KnowsSame, Puts, Scans, ScansBack, SeesMore, Takes, TellsStock, in_map};
 ghost use Rattle.blink_c.specs.Changing.{ChangesMap};
 
 use crate::session_handle::SessionHandle;
 use blink_batch::{Entry, Op};
 use blink_generation::FREE_TRIES;
-use blink_owners::map_refusal::code_of;
-use blink_owners::raw::{RawAnswer, RawScanned, RawStock, RawTaken};
-use blink_owners::refusal::Code;
+use blink_handles::map_refusal::code_of;
+use blink_handles::raw::{RawAnswer, RawScanned, RawStock, RawTaken};
+use blink_handles::refusal::Code;
 use std::alloc::Global;
 
 /// Looks any key up, as the session has seen it by the end of the call. It looks `tries` times for the session, at least once, while the

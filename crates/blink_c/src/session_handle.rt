@@ -1,9 +1,9 @@
 //! The handle of a session.
 ghost use Rattle.std.specs.Prelude.{◌≡◌};
-ghost use Rattle.blink_owners.specs.declared.session_owner.SessionOwner.{SessionOwner};
+ghost use Rattle.blink_handles.specs.declared.session_owner.SessionOwner.{SessionOwner};
 ghost use Rattle.blink_c.specs.SessionOwned.{handle_owns, session_coded};
 
-use blink_owners::session_owner::SessionOwner;
+use blink_handles::session_owner::SessionOwner;
 use std::alloc::Global;
 use std::marker::Model;
 

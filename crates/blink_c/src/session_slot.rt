@@ -1,10 +1,10 @@
 //! Where the caller gets the handle of a session.
 ghost use Rattle.std.specs.Prelude.{◌≡◌, Option, Some};
-ghost use Rattle.blink_owners.specs.declared.session_owner.SessionOwner.{SessionOwner};
+ghost use Rattle.blink_handles.specs.declared.session_owner.SessionOwner.{SessionOwner};
 ghost use Rattle.blink_c.specs.SessionOwned.{slot_coded, slot_owns};
 
 use crate::parts::Parts;
-use blink_owners::session_owner::SessionOwner;
+use blink_handles::session_owner::SessionOwner;
 use std::alloc::Global;
 use std::marker::Model;
 

@@ -1,7 +1,7 @@
 use Rattle.std.proofs.Common.{IfErr, length, subst}
 use Rattle.blink_store.specs.{PlainStore}
-use Rattle.blink_owners.specs.Codes.{code_of}
-use Rattle.blink_owners.specs.{IsRunRefusal}
+use Rattle.blink_handles.specs.Codes.{code_of}
+use Rattle.blink_handles.specs.{IsRunRefusal}
 use Rattle.blink_c.proofs.Codes.{told_why}
 use Rattle.blink_c.proofs.batch.blink_index_run.Goals as goal
 

@@ -3,7 +3,7 @@ use Rattle.std.specs.Prelude.{filter}
 use Rattle.blink_batch.specs.declared.Entry.{Entry}
 use Rattle.blink_index.specs.{first_of, is_from, map_of}
 use Rattle.blink_store.specs.{PlainStore}
-use Rattle.blink_owners.specs.{index_in}
+use Rattle.blink_handles.specs.{index_in}
 use Rattle.blink_c.proofs.reader.blink_reader_at_least.Goals as goal
 
 pub returns-clause-found : goal.returns-clause-found

@@ -2,7 +2,7 @@ use Rattle.std.proofs.Common.{◌↔◌, ◌∙◌, Option, IsSome, IsTrue, ap, 
 use Rattle.blink_batch.specs.declared.Entry.{Entry}
 use Rattle.blink_index.specs.{last_of, map_of}
 use Rattle.blink_store.specs.{PlainStore}
-use Rattle.blink_owners.specs.{index_in}
+use Rattle.blink_handles.specs.{index_in}
 use Rattle.blink_c.proofs.reader.blink_reader_last.Goals as goal
 
 pub returns-clause-found : goal.returns-clause-found

@@ -1,7 +1,7 @@
 use Rattle.std.proofs.Common.{IfErr, subst}
-use Rattle.blink_owners.specs.declared.session_owner.SessionOwner.{SessionOwner}
-use Rattle.blink_owners.specs.MapCodes.{code_of}
-use Rattle.blink_owners.specs.Sessions.{EndsFrom, IsAdvanceRefusal}
+use Rattle.blink_handles.specs.declared.session_owner.SessionOwner.{SessionOwner}
+use Rattle.blink_handles.specs.MapCodes.{code_of}
+use Rattle.blink_handles.specs.Sessions.{EndsFrom, IsAdvanceRefusal}
 use Rattle.blink_c.proofs.Codes.{on_done, told_why}
 use Rattle.blink_c.proofs.CodesOfMaps.{not_done}
 use Rattle.blink_c.proofs.session.blink_session_advance.Goals as goal

@@ -1,0 +1,66 @@
+use Rattle.std.proofs.Common.{◌≡◌, ◌++◌, ◌-◌, ◌<◌, ℕ, List, Some, length, append_assoc, length-append, ap, sym, ◌∙◌, arith}
+use Rattle.std.proofs.lemmas.List.{get_or-reverse, length-reverse}
+use Rattle.std.specs.Prelude.{reverse}
+use Rattle.blink_batch.specs.declared.Entry.{Entry}
+use Rattle.blink_rest.specs.{entries_from}
+use Rattle.blink_handles.specs.Filled.{told_of}
+use Rattle.blink_handles.specs.Raw.{raw_next}
+use Rattle.blink_handles.proofs.RunsShown.{entries_of_reverse, length-entries_from, shown_all, shown_full, told_all, told_within}
+use Rattle.blink_handles.proofs.reads.fill_back.Goals as goal
+
+-- a run more
+pub runs-preserved : goal.runs-preserved
+runs-preserved c =
+    let so_far = c.runs.invariant in
+    let run : List Entry = reverse (entries_from c.in-Some.part.now) in
+    let long : length run ≡ length c.in-Some.part.now = length-reverse (entries_from c.in-Some.part.now) ∙ length-entries_from c.in-Some.part.now in
+    record {
+      shown = so_far.shown ++ run;
+      in_order = so_far.in_order ∙ ap (λ (rest : List Entry). so_far.shown ++ rest) c.in-Some.ensures.run ∙ sym (append_assoc so_far.shown run c.next_run.new.self);
+      overlaid_so_far = c.set_run_back.ensures so_far.shown c.args.entries.now so_far.overlaid_so_far so_far.counted;
+      counted = omega (arith, length-append so_far.shown run, so_far.counted, long);
+      fitted = omega (arith, so_far.fitted);
+    }
+
+pub runs-smaller : goal.runs-smaller
+runs-smaller c =
+    let run : List Entry = reverse (entries_from c.in-Some.part.now) in
+    let parts = ap length c.in-Some.ensures.run ∙ length-append run c.next_run.new.self in
+    let long : length run ≡ length c.in-Some.part.now = length-reverse (entries_from c.in-Some.part.now) ∙ length-entries_from c.in-Some.part.now in
+    omega (arith, parts, long, c.in-Some.ensures.some)
+
+-- the run has an entry for which there is no place
+pub returns-then-room-part-clause-entries : goal.returns-then-room-part-clause-entries
+returns-then-room-part-clause-entries c =
+    let so_far = c.runs.invariant in
+    let run : List Entry = reverse (entries_from c.in-Some.part.now) in
+    let found = so_far.in_order ∙ ap (λ (rest : List Entry). so_far.shown ++ rest) c.in-Some.ensures.run in
+    let many = length-append so_far.shown run in
+    let long : length run ≡ length c.in-Some.part.now = length-reverse (entries_from c.in-Some.part.now) ∙ length-entries_from c.in-Some.part.now in
+    c.set_run_back.ensures so_far.shown c.args.entries.now so_far.overlaid_so_far so_far.counted
+    ∙ shown_full c.args.scan so_far.shown run c.next_run.new.self c.args.entries.now found (omega (arith, many, long, so_far.counted, so_far.fitted, c.if-room-part.true))
+
+pub returns-then-room-part-clause-scanned : goal.returns-then-room-part-clause-scanned
+returns-then-room-part-clause-scanned c =
+    let so_far = c.runs.invariant in
+    let part = c.in-Some.part.now in
+    let places = length c.set_run_back.new.entries in
+    let same : places ≡ length c.args.entries.now = c.set_run_back.auto.entries ∙ c.runs.auto.entries in
+    let room = places - c.runs.filled in
+    let found = so_far.in_order ∙ ap (λ (rest : List Entry). so_far.shown ++ rest) (c.in-Some.ensures.run ∙ ap (λ (es : List Entry). es ++ c.next_run.new.self) (sym (entries_of_reverse part))) in
+    let inside : room < length (reverse part) = omega (arith, length-reverse part, c.if-room-part.true) in
+    let key = ap (λ (x : ℕ × ℕ). raw_next places (Some x.0)) (sym (get_or-reverse part room (0, 0) c.if-room-part.true)) in
+    c.told.ensures ∙ (key
+    ∙ (told_within c.args.scan so_far.shown (reverse part) c.next_run.new.self room places found (omega (arith, so_far.counted, so_far.fitted, same)) inside
+    ∙ ap (told_of c.args.scan) same))
+
+-- no run is left
+pub returns-clause-entries : goal.returns-clause-entries
+returns-clause-entries c =
+    let so_far = c.runs.invariant in
+    so_far.overlaid_so_far ∙ shown_all c.args.scan so_far.shown c.runs.scan c.args.entries.now so_far.in_order c.in_default.ensures.end
+
+pub returns-clause-scanned : goal.returns-clause-scanned
+returns-clause-scanned c =
+    let so_far = c.runs.invariant in
+    c.told-2.ensures ∙ told_all c.args.scan so_far.shown c.runs.scan c.runs.filled (length c.args.entries.now) so_far.in_order c.in_default.ensures.end so_far.counted so_far.fitted
