@@ -4,8 +4,8 @@ This file is the whole module; copy it beside your program, or name its folder b
 builds: from the folder that the environment names as BLINK_LIB_DIR, and from no other; or, where that isn't set, from the file's own
 folder, from `out` of the repository that it stands in, from `lib` of the prefix that it is installed in, or from where the system looks.
 
-What a call does, blink.h says of the function that has the call's name. Two have another name there: `remove` is delete, and
-`remove_exact` is delete_exact. A refusal raises Error. A change of a map ends before its call does. An object has a lock, so that threads
+What a call does, blink.h says of the function that has the call's name. Five have another name there: `get`, `get_many`, `remove`,
+`compare_exchange` and `compare_remove` are find, find_many, delete, exchange and delete_exact. A refusal raises Error. A change of a map ends before its call does. An object has a lock, so that threads
 which use it at once wait for each other; so give each thread a session. An object that is closed raises ValueError.
 
     index = blink.Index(entries=[(7, 70)])
@@ -31,7 +31,7 @@ _VERSION = "0.1.0"
 # What a call returns that may be refused, as blink.h declares it.
 CODE = ctypes.c_int
 
-FIND, INSERT, DELETE, REPLACE = range(4)
+GET, INSERT, REMOVE, REPLACE = range(4)
 ABSENT, FOUND, INSERTED, EXISTS, REMOVED, REPLACED = range(6)
 
 #: The codes of blink.h, by their names without BLINK_.
@@ -92,6 +92,10 @@ _Reserve = _struct("blink_reserve", *Reserve._fields)
 
 class _Handle(ctypes.Structure):
     _fields_ = [("at", ctypes.c_void_p)]
+
+
+# The words of blink.h for what has another name here.
+_WORDS = {"get": "find", "get_many": "find_many", "remove": "delete", "compare_exchange": "exchange", "compare_remove": "delete_exact"}
 
 
 def _declared():
@@ -252,7 +256,7 @@ class _Owner:
         """Calls a function of the handle, which has to be full, while no other thread does."""
         with self._lock:
             self._is_open()
-            return getattr(_library, f"blink_{self._kind}_{name}")(self._handle, *values)
+            return getattr(_library, f"blink_{self._kind}_{_WORDS.get(name, name)}")(self._handle, *values)
 
     def _waits(self, name, *values):
         """The same until the map isn't being renewed; of what is no session one call is enough."""
@@ -332,29 +336,29 @@ class _Updates:
         return self._changes("insert", key, pointer)
 
     def remove(self, key):
-        return self._changes("delete", key)
+        return self._changes("remove", key)
 
     def replace(self, key, pointer):
         return self._changes("replace", key, pointer)
 
-    def exchange(self, key, expected, pointer):
-        return self._changes("exchange", key, expected, pointer)
+    def compare_exchange(self, key, expected, pointer):
+        return self._changes("compare_exchange", key, expected, pointer)
 
-    def remove_exact(self, key, expected):
-        return self._changes("delete_exact", key, expected)
+    def compare_remove(self, key, expected):
+        return self._changes("compare_remove", key, expected)
 
 
 class _Reads(_Owner):
-    def find(self, key):
+    def get(self, key):
         """The pointer of the key, or None."""
         pointer = ctypes.c_uint64()
-        return pointer.value if self._call("find", _number(key), pointer) else None
+        return pointer.value if self._call("get", _number(key), pointer) else None
 
-    def find_many(self, keys):
+    def get_many(self, keys):
         """The answer of each key, FOUND or ABSENT."""
         keys, count = _numbers_of(keys)
         answers = (_Answer * count)()
-        _check(self._call("find_many", keys, count, answers, count))
+        _check(self._call("get_many", keys, count, answers, count))
         return [Answer(it.kind, it.pointer) for it in answers]
 
     def scan(self, lo, hi):
@@ -409,7 +413,7 @@ class _Reads(_Owner):
         return self._call("len")
 
     def __contains__(self, key):
-        return self.find(key) is not None
+        return self.get(key) is not None
 
     def pages(self):
         return self._call("pages")
@@ -528,9 +532,9 @@ class Session(_Owner, _Updates):
         _check(self._waits(name, _number(key), *self._tries, answer))
         return answer.pointer if answer.kind == FOUND else None
 
-    def find(self, key):
+    def get(self, key):
         """The pointer of the key, or None."""
-        return self._found("find", key)
+        return self._found("get", key)
 
     def scan(self, lo, hi):
         """The entries with keys from lo to hi, both included, as pairs, while others change them."""

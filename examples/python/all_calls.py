@@ -31,9 +31,10 @@ def compares_with_the_header(folder):
     text = re.sub(r"/\*.*?\*/", "", (folder / "blink.h").read_text(), flags=re.S)
     numbers = {name: int(value) for name, value in re.findall(r"^    BLINK_(\w+) = (\d+)", text, re.M)}
     assert {name: numbers.get(name) for name in blink.CODES} == blink.CODES
-    names = "FIND INSERT DELETE REPLACE ABSENT FOUND INSERTED EXISTS REMOVED REPLACED".split()
-    assert all(getattr(blink, name) == numbers[name] for name in names)
-    assert set(numbers) == set(blink.CODES) | set(names)
+    names = {it: it for it in "INSERT REPLACE ABSENT FOUND INSERTED EXISTS REMOVED REPLACED".split()}
+    names.update(GET="FIND", REMOVE="DELETE")
+    assert all(getattr(blink, name) == numbers[there] for name, there in names.items())
+    assert set(numbers) == set(blink.CODES) | set(names.values())
     prototypes = {
         name: (result.strip(), [re.sub(r"\bconst |\w+$", "", it.strip()).replace(" ", "") for it in parameters.split(",")])
         for result, name, parameters in re.findall(r"^((?:const )?\w+ \*?)(blink_\w+)\(([^)]*)\);", text, re.M)
@@ -61,9 +62,9 @@ def uses_an_index():
     index = blink.Index(4)
     assert (len(index), index.pages(), index.fan(), index.first(), index.last()) == (0, 1, 4, None, None)
     assert index.insert(5, 50) == (INSERTED, 0) and index.insert(5, 51) == (EXISTS, 50)
-    assert index.replace(5, 52) == (REPLACED, 50) and index.exchange(5, 50, 53) == (EXISTS, 52)
-    assert index.exchange(5, 52, 53) == (REPLACED, 52) and index.remove_exact(5, 52) == (EXISTS, 53)
-    assert index.find(5) == 53 and 6 not in index and index.remove(6) == (ABSENT, 0)
+    assert index.replace(5, 52) == (REPLACED, 50) and index.compare_exchange(5, 50, 53) == (EXISTS, 52)
+    assert index.compare_exchange(5, 52, 53) == (REPLACED, 52) and index.compare_remove(5, 52) == (EXISTS, 53)
+    assert index.get(5) == 53 and 6 not in index and index.remove(6) == (ABSENT, 0)
     for key in range(1000, 2000):
         index.insert(key, MOST - key)
     assert len(index) == 1001 and index.scan(1998, MOST) == [(1998, MOST - 1998), (1999, MOST - 1999)] and index.scan(6, 7) == []
@@ -73,12 +74,12 @@ def uses_an_index():
     assert index.count(1500, 1999) == 500 and index.count(6, 999) == 0 and index.page(0, 600)[-1] == (1598, MOST - 1598)
     assert index.prev(1000) == (5, 53) and index.prev(5) is None and index.at_least(6)[0] == 1000 and index.at_most(999) == (5, 53)
     assert index.first() == (5, 53) and index.last()[0] == 1999 and index.next(5)[0] == 1000 and index.next(1999) is None
-    assert index.find_many([5, 6]) == [(FOUND, 53), (ABSENT, 0)] and index.find_many([]) == []
+    assert index.get_many([5, 6]) == [(FOUND, 53), (ABSENT, 0)] and index.get_many([]) == []
     copy = index.copy()
     pages = copy.pages()
     copy.compact()
     assert copy.pages() < pages and len(copy) == 1001
-    assert copy.run([(blink.FIND, 5, 0), (blink.DELETE, 5, 0)]) == [(FOUND, 53), (REMOVED, 53)] and 5 not in copy and 5 in index
+    assert copy.run([(blink.GET, 5, 0), (blink.REMOVE, 5, 0)]) == [(FOUND, 53), (REMOVED, 53)] and 5 not in copy and 5 in index
     assert refuses(blink.Error, index.run, [(9, 1, 1)]).name == "UNKNOWN_OPERATION"
     assert refuses(blink.Error, blink.Index, 33).code == 40
     assert refuses(blink.Error, blink.Index.from_sorted, [(1, 0), (3, 0), (2, 0)]).place == 2
@@ -87,12 +88,12 @@ def uses_an_index():
     # what has no place in 64 bits isn't cut off
     for bad in -1, MOST + 1:
         refuses(OverflowError, index.insert, bad, 0)
-        refuses(OverflowError, index.find, bad)
-    refuses(AttributeError, index.find, "5")
+        refuses(OverflowError, index.get, bad)
+    refuses(AttributeError, index.get, "5")
     refuses(OverflowError, blink.Index, 260)
     index.free()
     index.free()
-    refuses(ValueError, index.find, 5)
+    refuses(ValueError, index.get, 5)
     refuses(ValueError, blink.Map, index)
 
 
@@ -102,7 +103,7 @@ def shares_an_index():
     def reads(own):
         with own:
             for key in range(1000):
-                assert own.find(key) == key * 10
+                assert own.get(key) == key * 10
 
     in_threads(reads, [reader.join() for _ in range(2)])
     other = reader.join()
@@ -110,7 +111,7 @@ def shares_an_index():
     refuses(TypeError, blink.Map, reader)
     other.free()
     index = reader.unshare()
-    refuses(ValueError, reader.find, 5)
+    refuses(ValueError, reader.get, 5)
     assert index.insert(1000, 1) == (INSERTED, 0)
 
 
@@ -142,9 +143,9 @@ def shares_a_map():
         with session:
             for turn in range(1000):
                 key, done = turn % 10, False
-                there = session.find(key)
+                there = session.get(key)
                 while not done:
-                    answer = session.insert(key, 1) if there is None else session.exchange(key, there, there + 1)
+                    answer = session.insert(key, 1) if there is None else session.compare_exchange(key, there, there + 1)
                     done, there = answer.kind in (INSERTED, REPLACED), answer.pointer
 
     in_threads(adds, [shared.join() for _ in range(8)])
@@ -152,7 +153,7 @@ def shares_a_map():
     assert one.scan(0, MOST) == [(key, 800) for key in range(10)]
     assert one.scan_back(0, MOST) == [(key, 800) for key in reversed(range(10))]
     assert one.put(5, 7) == 800 and one.put(10, 8) is None and one.replace(10, 9) == (REPLACED, 8)
-    assert other.find(5) == 7 and other.remove_exact(10, 8) == (EXISTS, 9) and other.remove(10) == (REMOVED, 9)
+    assert other.get(5) == 7 and other.compare_remove(10, 8) == (EXISTS, 9) and other.remove(10) == (REMOVED, 9)
     for key in range(1000, 2000):
         one.insert(key, key)
     assert len(other.snapshot(0, MOST)) == 1010 and other.snapshot(0, 1, tries=0) is None and len(other.scan(1500, 1999)) == 500
@@ -164,10 +165,10 @@ def shares_a_map():
     assert refuses(blink.Error, shared.join).name == "NO_SESSION"
     for session in more + [one, other]:
         session.free()
-    refuses(ValueError, one.find, 5)
+    refuses(ValueError, one.get, 5)
     closed = shared.close()
     refuses(ValueError, shared.join)
-    assert len(closed) == 1010 and closed.find(5) == 7 and len(index) == 0
+    assert len(closed) == 1010 and closed.get(5) == 7 and len(index) == 0
     # as test.c of crates/blink_c/link has it: two insertions fill a half page of four again
     four = blink.Index(4)
     assert blink.room_for(four, 1000, 2) == (1195, 2990, 2) and blink.room_for(four, 2**32 - 1, 256) == (2**32 - 1, 2**32 - 1, 256)
@@ -232,21 +233,21 @@ def lets_a_map_grow():
 
     in_threads(inserts, [shared.join() for _ in range(4)])
     one, other = shared.join(), shared.join()
-    assert other.scan(0, 10_000) == [(key, key) for key in range(10_000)] and other.find(MOST) == 1 and other.find(10_000) is None
+    assert other.scan(0, 10_000) == [(key, key) for key in range(10_000)] and other.get(MOST) == 1 and other.get(10_000) is None
     assert other.scan_back(0, MOST)[:2] == [(MOST, 1), (9_999, 9_999)] and len(other.snapshot(1, 9_999)) == 9_999
-    assert one.exchange(5, 6, 8) == (EXISTS, 5) and one.exchange(5, 5, 8) == (REPLACED, 5)
-    assert one.remove_exact(5, 7) == (EXISTS, 8) and one.remove_exact(5, 8) == (REMOVED, 8) and one.remove(6) == (REMOVED, 6)
+    assert one.compare_exchange(5, 6, 8) == (EXISTS, 5) and one.compare_exchange(5, 5, 8) == (REPLACED, 5)
+    assert one.compare_remove(5, 7) == (EXISTS, 8) and one.compare_remove(5, 8) == (REMOVED, 8) and one.remove(6) == (REMOVED, 6)
     with one.hold():
-        assert one.find(7) == 7 and one.insert(5, 50) == (INSERTED, 0)
+        assert one.get(7) == 7 and one.insert(5, 50) == (INSERTED, 0)
         assert refuses(blink.Error, shared.renew).name == "RENEWING"
         assert refuses(blink.Error, shared.renew, 1).name == "RENEWING"
     shared.renew()
-    assert other.find(5) == 50 and refuses(blink.Error, shared.close).name == "SESSION_MISSING"
+    assert other.get(5) == 50 and refuses(blink.Error, shared.close).name == "SESSION_MISSING"
     one.free()
     other.free()
     closed = shared.close()
     refuses(ValueError, shared.join)
-    assert len(closed) == 10_000 and closed.find(MOST) == 1 and closed.find(6) is None and len(index) == 1
+    assert len(closed) == 10_000 and closed.get(MOST) == 1 and closed.get(6) is None and len(index) == 1
     refuses(TypeError, blink.Map, 4)
 
 
@@ -260,14 +261,14 @@ def chooses_the_room_of_a_map(fixed):
         assert session.insert(key, 10 * key) == (INSERTED, 0)
     assert session.reserve().pages > 0
     if fixed:
-        assert refuses(blink.Error, session.insert, 6, 60).name == "FULL" and session.find(6) is None
+        assert refuses(blink.Error, session.insert, 6, 60).name == "FULL" and session.get(6) is None
         assert refuses(blink.Error, shared.renew).name == "FULL" and refuses(blink.Error, shared.join).name == "NO_SESSION"
         with session.hold():
             assert refuses(blink.Error, shared.room).name == "RENEWING"
     else:
-        assert session.insert(6, 60) == (INSERTED, 0) and session.find(6) == 60
+        assert session.insert(6, 60) == (INSERTED, 0) and session.get(6) == 60
         shared.renew()
-    assert session.put(5, 51) == 50 and session.remove(1) == (REMOVED, 10) and session.find(5) == 51
+    assert session.put(5, 51) == 50 and session.remove(1) == (REMOVED, 10) and session.get(5) == 51
     session.free()
     assert len(shared.close()) == (4 if fixed else 5)
     grows = blink.Map.with_room(index, *blink.room_for(index, 100, 1))
