@@ -28,11 +28,7 @@ is() {
 
 # Names: only those of the header, and one version everywhere.
 quietly sh "$top/crates/blink_c/link/compare.sh" "$top/out/libblink.a" "$top/out/libblink.so"
-version=$(sed -n 's/^#define BLINK_VERSION "\(.*\)"$/\1/p' "$top/include/blink.h")
-is "rust/blink's version" "$(sed -n 's/^version = "\(.*\)"$/\1/p' "$top/rust/blink/Cargo.toml")" "$version"
-is "the header's numbers" "$(sed -n 's/^#define BLINK_VERSION_[A-Z]* //p' "$top/include/blink.h" | paste -sd.)" "$version"
-is "blink.hpp's version" "$(sed -n 's/^#if BLINK_VERSION_MAJOR != //p' "$top/include/blink.hpp")" "${version%%.*}"
-is "blink.py's version" "$(sed -n 's/^_VERSION = "\(.*\)"$/\1/p' "$top/python/blink.py")" "$version"
+version=$(sh "$top/include/version.sh")
 is libblink.so.0 "$(readlink "$top/out/libblink.so.0")" "libblink.so.$version"
 is libblink.so "$(readlink "$top/out/libblink.so")" libblink.so.0
 if command -v readelf >/dev/null 2>&1; then

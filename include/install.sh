@@ -15,7 +15,7 @@ if [ "$1" = --uninstall ]; then
 fi
 prefix=$(realpath -ms -- "$2")
 root=$1$prefix
-version=$(sed -n 's/^#define BLINK_VERSION "\(.*\)"$/\1/p' "$top/include/blink.h")
+version=$(sh "$top/include/version.sh")
 headers="blink.h blink.hpp blink_tsan.h"
 shared=libblink.so.$version
 soname=libblink.so.${version%%.*}

@@ -5,6 +5,6 @@
 #     pc.sh PREFIX FOLDER
 set -eu
 here=$(cd "$(dirname "$0")" && pwd)
-version=$(sed -n 's/^#define BLINK_VERSION "\(.*\)"$/\1/p' "$here/blink.h")
+version=$(sh "$here/version.sh")
 printf 'prefix=%s\nlibdir=${prefix}/%s\n' "$1" "$2"
 sed "s/@version@/$version/" "$here/blink.pc.in"

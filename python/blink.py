@@ -51,7 +51,7 @@ from collections.abc import ItemsView, KeysView, Mapping, MutableMapping, Values
 from typing import NamedTuple, Optional
 
 # The version of this module. The library has the same first number.
-_VERSION = "0.1.0"
+__version__ = "0.1.0"
 
 # What a call returns that may be refused, as blink.h declares it.
 CODE = ctypes.c_int
@@ -252,8 +252,8 @@ def _compare_versions(library):
     """Refuses a library whose calls may be others than those of this module."""
     library.blink_version.restype = ctypes.c_char_p
     there = library.blink_version().decode()
-    if there.split(".")[0] != _VERSION.split(".")[0]:
-        raise ImportError(f"{library._name} has version {there}, and blink.py {_VERSION}: take both from one release")
+    if there.split(".")[0] != __version__.split(".")[0]:
+        raise ImportError(f"{library._name} has version {there}, and blink.py {__version__}: take both from one release")
 
 
 _library = _load()

@@ -12,6 +12,8 @@ from typing_extensions import Self
 _T = TypeVar("_T")
 _Pair = tuple[int, int]
 
+__version__: Final[str]
+
 GET: Final = 0
 INSERT: Final = 1
 REMOVE: Final = 2
