@@ -226,7 +226,8 @@ def _file():
     folder = pathlib.Path(__file__).resolve().parent
     files = [folder / "libblink.so.0", folder.parent / "out" / "libblink.so.0"]
     if folder.parts[-2:] == ("share", "blink"):
-        files.append(folder.parent.parent / "lib" / "libblink.so.0")
+        for place in "lib", "lib64", "lib/*-linux-gnu":
+            files += folder.parent.parent.glob(f"{place}/libblink.so.0")
     return next((str(file) for file in files if file.exists()), "libblink.so.0")
 
 
