@@ -1,9 +1,9 @@
 #!/bin/sh
-# Tries the release that `make dist` makes, as somebody without the toolchain takes it: unpacked outside the repository, with an empty home and the
-# system's programs alone. It runs the lines of the release's README.md, and links C and C++ by CMake and with the shared library, the crate without a
-# network, the wheel, and the table of SQLite. Before that it looks whether two copies of the sources make the same bytes, and what is refused:
-# a library of another version, of other sources, or of somebody else, and a full disk. It is for a library that is built. It says nothing where all
-# is well, and names what it left out, as a tool isn't there.
+# Tries the release that `make dist` makes, as somebody without the toolchain takes it: unpacked outside the repository, with an empty home and
+# the system's programs alone. It runs the lines of the release's README.md, and links C and C++ by CMake and with the shared library, the crate
+# without a network, the wheel, and the table of SQLite. Before that it looks whether two copies of the sources make the same bytes, also as the
+# Debian packages of `make deb`; whether these can be used; and what is refused: a library of another version, of other sources, or of somebody
+# else, and a full disk. It is for a library that is built. It says nothing where all is well, and names what it left out, as a tool isn't there.
 set -eu
 top=$(cd "$(dirname "$0")/.." && pwd)
 work=$(mktemp -d)
@@ -49,6 +49,7 @@ if ! command -v python3 >/dev/null 2>&1; then
     echo "$0: no Python, so no release was made" >&2
     exit 0
 fi
+echo 'The cat sees the dog, the dog sees a cat.' >text
 copy one
 (umask 077 && copy a/longer/path)
 other=a/longer/path
@@ -56,6 +57,35 @@ export SOURCE_DATE_EPOCH=1764633600
 quietly sh one/tools/dist.sh
 (umask 077 && TZ=Asia/Tokyo LANG=C.UTF-8 && export TZ LANG && quietly sh "$other/tools/dist.sh")
 cmp "one/out/dist/$name.tar.gz" "$other/out/dist/$name.tar.gz" >&2 || wrong "two copies of the same sources make other bytes"
+
+# The same of Debian packages, unpacked elsewhere: what lintian says of them, and whether they are used.
+if command -v dpkg-deb >/dev/null 2>&1 && command -v dpkg-shlibdeps >/dev/null 2>&1; then
+    quietly sh one/tools/deb.sh
+    (umask 077 && quietly sh "$other/tools/deb.sh")
+    [ "$(ls -A one/out/deb)" = "$(printf '%s\n' "libblink-dev_${version}_amd64.deb" "libblink${version%%.*}_${version}_amd64.deb" "python3-blink_${version}_amd64.deb")" ] ||
+        wrong "other packages: $(ls -A one/out/deb)"
+    for it in one/out/deb/*; do
+        cmp "$it" "$other/out/deb/${it##*/}" >&2 || wrong "two copies of the same sources make other packages"
+        dpkg-deb -x "$it" root
+    done
+    if command -v lintian >/dev/null 2>&1; then
+        lintian --allow-root --fail-on error,warning one/out/deb/*.deb >told 2>&1 || { cat told >&2; wrong "lintian doesn't accept the packages"; }
+    else
+        echo "$0: no lintian, so the packages weren't looked at by it" >&2
+    fi
+    lib=$work/root/usr/lib/x86_64-linux-gnu
+    if command -v pkg-config >/dev/null 2>&1; then
+        # shellcheck disable=SC2046
+        quietly "${CC:-cc}" -std=c11 -pthread "$top/examples/c/word_count.c" $(PKG_CONFIG_SYSROOT_DIR=$work/root PKG_CONFIG_LIBDIR=$lib/pkgconfig \
+            PKG_CONFIG_ALLOW_SYSTEM_CFLAGS=1 PKG_CONFIG_ALLOW_SYSTEM_LIBS=1 pkg-config --cflags --libs blink) -o by_package
+        [ "$(LD_LIBRARY_PATH=$lib ./by_package text)" = '10 words, 5 different, "the" 3 times' ] || wrong "a program by libblink-dev doesn't run"
+        ! LD_LIBRARY_PATH='' ./by_package text >told 2>&1 || wrong "blink.pc of libblink-dev doesn't name the shared library"
+    fi
+    [ "$(cd / && LD_LIBRARY_PATH=$lib PYTHONPATH=$work/root/usr/lib/python3/dist-packages PYTHONDONTWRITEBYTECODE=1 python3 -c 'import blink
+print(blink._library._name, blink.Index({1: 10}))' 2>&1)" = "libblink.so.${version%%.*} Index({1: 10})" ] || wrong "python3-blink doesn't take libblink${version%%.*}"
+else
+    echo "$0: no dpkg-dev, so no Debian package was made" >&2
+fi
 
 # What is refused leaves the release that was there, and nothing else.
 sum=$(sha256sum <"one/out/dist/$name.tar.gz")
@@ -144,7 +174,6 @@ command -v pkg-config >/dev/null 2>&1 || { sed -i '/pkg-config\|word_count\|all_
 does sh -eu "$work/lines"
 
 # What these lines leave out.
-echo 'The cat sees the dog, the dog sees a cat.' >"$work/text"
 does make -s -C examples/c word_count
 ends_with '10 words, 5 different, "the" 3 times' examples/c/word_count "$work/text"
 does cc -std=c11 -pthread -I include examples/c/word_count.c -Llib -lblink -o by_shared
