@@ -133,6 +133,12 @@ CMAKE
     quietly env PKG_CONFIG_PATH="$work/moved/lib/pkgconfig" cmake -S cmake -B multi -DCMAKE_PREFIX_PATH="$work/prefix/multi" -DCMAKE_C_COMPILER="$cc" \
         -DCMAKE_LIBRARY_ARCHITECTURE=x86_64-linux-gnu
     quietly cmake --build multi
+    printf 'set(CMAKE_SYSTEM_NAME Linux)\nset(CMAKE_SYSTEM_PROCESSOR aarch64)\n' >other.cmake
+    if cmake -S cmake -B other_processor -DCMAKE_PREFIX_PATH="$work/moved" -DCMAKE_C_COMPILER="$cc" -DCMAKE_TOOLCHAIN_FILE="$work/other.cmake" >told 2>&1 ||
+        ! grep -q "libblink is for Linux on x86-64, and this is aarch64" told; then
+        cat told >&2
+        wrong "CMake finds the library for another processor"
+    fi
     for it in built/by_* multi/by_*; do
         [ ! -x "$it" ] || [ -d "$it" ] || is "$it" "$("./$it" 2>&1)" "$version"
     done
@@ -149,6 +155,11 @@ if command -v cargo >/dev/null 2>&1; then
         ! grep -q "has version 1.0.0, and the crate $version: take both from one release" told; then
         cat told >&2
         wrong "the crate takes a library of another major version"
+    fi
+    if BLINK_LIB_DIR=$top/out CARGO_TARGET_DIR=$work/target cargo check --offline --target aarch64-unknown-linux-gnu \
+        --manifest-path "$top/rust/blink/Cargo.toml" >told 2>&1 || ! grep -q "the library is for Linux on x86-64, and the target is linux on aarch64" told; then
+        cat told >&2
+        wrong "the crate takes a target that the library isn't for"
     fi
 fi
 if command -v python3 >/dev/null 2>&1; then

@@ -6,6 +6,8 @@
  * functions it is tested alone that memory is refused only where malloc or realloc gives none, that an operation gets on by
  * blink_session_advance, and that what is freed is free. What follows is what the caller keeps.
  *
+ * Processor. Both are for Linux on x86-64-v2, which has popcnt and SSE 4.2. A processor without these ends the program by SIGILL.
+ *
  * Handles. blink_index, blink_reader, blink_map and blink_session are handles. A handle begins as {NULL}, and is then empty. A function
  * with a parameter `out` takes the place of an empty handle, and fills it if it returns BLINK_DONE. All other functions take a full one. A
  * handle is freed once, by its free function. A close of a map leaves the handle, which blink_map_free frees. blink_index_share and blink_reader_unshare, if they return BLINK_DONE, leave the handle empty that they

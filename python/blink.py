@@ -231,7 +231,25 @@ def _file():
     return next((str(file) for file in files if file.exists()), "libblink.so.0")
 
 
+# What the library needs of a processor beside x86-64, in the words of Linux: it is compiled for x86-64-v2.
+_NEEDED = {"cx16", "popcnt", "sse4_1", "sse4_2", "ssse3"}
+_CPUINFO = "/proc/cpuinfo"
+
+
+def _lacking():
+    """What of that this processor lacks; nothing, where the system doesn't tell."""
+    try:
+        with open(_CPUINFO, encoding="utf-8", errors="replace") as lines:
+            flags = next((line for line in lines if line.startswith("flags")), None)
+    except OSError:
+        return []
+    return sorted(_NEEDED - set(flags.split())) if flags else []
+
+
 def _load():
+    # An instruction that it lacks would end the whole program.
+    if lacking := _lacking():
+        raise ImportError(f"libblink is compiled for x86-64-v2, and this processor lacks {', '.join(lacking)}")
     named = os.environ.get("BLINK_LIB_DIR")
     try:
         # Of the loaders of ctypes, PyDLL would keep the interpreter's lock during calls.

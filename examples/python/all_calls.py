@@ -7,6 +7,7 @@ import pathlib
 import pickle
 import re
 import sys
+import tempfile
 import threading
 import time
 from collections.abc import Mapping, MutableMapping
@@ -57,6 +58,18 @@ def compares_with_the_header(folder):
     version = re.search(r'^#define BLINK_VERSION "(.*)"$', text, re.M)[1]
     assert blink.version() == version, (blink.version(), version)
     assert ctypes.sizeof(ctypes.c_size_t) == 8
+
+
+def refuses_an_older_processor():
+    there = blink._CPUINFO
+    with tempfile.TemporaryDirectory() as folder:
+        blink._CPUINFO = f"{folder}/cpuinfo"
+        assert blink._lacking() == []
+        for flags, lacking in (("fpu sse2 pni ssse3 cx16 sse4_1", "popcnt, sse4_2"), ("fpu", "cx16, popcnt, sse4_1, sse4_2, ssse3")):
+            pathlib.Path(blink._CPUINFO).write_text(f"processor\t: 0\nflags\t\t: {flags}\n\nprocessor\t: 1\n")
+            told = str(refuses(ImportError, blink._load))
+            assert told == f"libblink is compiled for x86-64-v2, and this processor lacks {lacking}"
+    blink._CPUINFO = there
 
 
 def uses_an_index():
@@ -466,6 +479,7 @@ def chooses_the_room_of_a_map(fixed):
 
 
 compares_with_the_header(pathlib.Path(sys.argv[1]) if len(sys.argv) > 1 else top / "include")
+refuses_an_older_processor()
 uses_an_index()
 refuses_what_is_no_key()
 is_a_dict_in_order(blink.Index(fan=4))
