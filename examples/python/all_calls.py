@@ -224,7 +224,7 @@ def is_closed_in_the_end():
 def reads_while_another_thread_runs():
     """The interpreter's lock is free during a call: only then may another thread run here, since it is asked for by nobody else."""
     assert type(blink._library) is ctypes.CDLL
-    index, gate, seen = blink.Index((key, key) for key in range(5000)), threading.Lock(), []
+    index, gate, seen = blink.Index.from_sorted((key, key) for key in range(200_000)), threading.Lock(), []
 
     def runs():
         with gate:
@@ -233,14 +233,12 @@ def reads_while_another_thread_runs():
     gate.acquire()
     thread = threading.Thread(target=runs)
     thread.start()
-    interval = sys.getswitchinterval()
+    interval, deadline = sys.getswitchinterval(), time.monotonic() + 60
     sys.setswitchinterval(1000)
     try:
         gate.release()
-        for _ in range(100_000):
-            if seen:
-                break
-            index.count()
+        while not seen and time.monotonic() < deadline:
+            index.copy()
     finally:
         sys.setswitchinterval(interval)
     assert seen == [0]
