@@ -1,7 +1,7 @@
 """blink.h for Python, by ctypes: ordered maps from keys to pointers, both integers from 0 to 2**64 - 1. Threads may share one.
 
 An `Index` is a dict in key order, for one thread. A `Map` is changed by many threads, each by a `Session`, which is such a dict too. A
-`Reader` is one that is only read. All three have what `collections.abc` gives a mapping, and the calls of blink.h by the names below.
+`Reader` is one that is only read. Index, session and reader have what `collections.abc` gives a mapping, and the calls of blink.h.
 
     index = blink.Index({7: 70, 9: 90})
     index[8] = 80

@@ -72,6 +72,12 @@ def refuses_an_older_processor():
     blink._CPUINFO = there
 
 
+def does_what_the_module_says():
+    lines = [line[4:] for line in blink.__doc__.splitlines() if line.startswith("    ")]
+    exec("\n".join(lines), its := {"blink": blink})
+    assert len(lines) == 9 and its["index"] == {8: 80, 9: 90, 10: 100}
+
+
 def uses_an_index():
     index = blink.Index(fan=4)
     assert (len(index), index.pages(), index.fan(), index.first(), index.last()) == (0, 1, 4, None, None)
@@ -478,6 +484,7 @@ def chooses_the_room_of_a_map(fixed):
 
 compares_with_the_header(pathlib.Path(sys.argv[1]) if len(sys.argv) > 1 else top / "include")
 refuses_an_older_processor()
+does_what_the_module_says()
 uses_an_index()
 refuses_what_is_no_key()
 is_a_dict_in_order(blink.Index(fan=4))
