@@ -17,19 +17,21 @@ top = pathlib.Path(__file__).resolve().parent.parent
 SUMMARY = "A proved B-link tree index, and a map that threads share without a global lock"
 
 
-def platform_of(library):
-    """The oldest Linux that has each version of the C library's symbols that this one needs, as PEP 600 names it, and no other library."""
+def platforms_of(library):
+    """The oldest Linux that has each version of the C library's symbols that this one needs, and no other library, by its names for pip."""
     told = subprocess.run(["readelf", "-dVW", library], check=True, capture_output=True, text=True, env={**os.environ, "LC_ALL": "C"}).stdout
     needed = set(re.findall(r"\(NEEDED\).*\[(.*)\]", told))
     if needed - {"libc.so.6"}:
         sys.exit(f"{library} needs {', '.join(sorted(needed))}, and a wheel may count on libc.so.6 alone")
     versions = [tuple(map(int, it.split("."))) for it in re.findall(r"GLIBC_([0-9.]+)", told)]
-    # pip knows names from 2.17 on
-    return "manylinux_{}_{}_x86_64".format(*max([(2, 17), *(it[:2] for it in versions)]))
+    oldest = max([(2, 17), *(it[:2] for it in versions)])
+    # the first has an older name, which pip has known for longer
+    return ["manylinux_{}_{}_x86_64".format(*oldest)] + ["manylinux2014_x86_64"] * (oldest == (2, 17))
 
 
 def main(version, library, folder):
-    tag = f"py3-none-{platform_of(library)}"
+    platforms = platforms_of(library)
+    tags = "".join(f"Tag: py3-none-{it}\n" for it in platforms)
     info = f"blink-{version}.dist-info"
     files = {
         "blink/__init__.py": (top / "python/blink.py").read_bytes(),
@@ -38,7 +40,7 @@ def main(version, library, folder):
         f"blink/libblink.so.{version.split('.')[0]}": pathlib.Path(library).read_bytes(),
         f"{info}/METADATA": f"Metadata-Version: 2.1\nName: blink\nVersion: {version}\nSummary: {SUMMARY}\n"
                             "Requires-Python: >=3.8\nClassifier: Typing :: Typed\n".encode(),
-        f"{info}/WHEEL": f"Wheel-Version: 1.0\nGenerator: tools/wheel.py\nRoot-Is-Purelib: false\nTag: {tag}\n".encode(),
+        f"{info}/WHEEL": f"Wheel-Version: 1.0\nGenerator: tools/wheel.py\nRoot-Is-Purelib: false\n{tags}".encode(),
     }
     record = ""
     for name, text in sorted(files.items()):
@@ -47,7 +49,7 @@ def main(version, library, folder):
     files[f"{info}/RECORD"] = f"{record}{info}/RECORD,,\n".encode()
     # a zip file has no earlier times
     when = time.gmtime(max(int(os.environ["SOURCE_DATE_EPOCH"]), 315532800))[:6]
-    name = f"blink-{version}-{tag}.whl"
+    name = f"blink-{version}-py3-none-{'.'.join(platforms)}.whl"
     with zipfile.ZipFile(os.path.join(folder, name), "w", zipfile.ZIP_DEFLATED, compresslevel=9) as wheel:
         for member, text in sorted(files.items()):
             it = zipfile.ZipInfo(member, when)
