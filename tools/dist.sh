@@ -98,8 +98,8 @@ sed "s/@version@/$version/" "$top/tools/release.txt" >"$stage/README.md"
     cat <<'TEXT'
 
 ./libblink built these two files of these sources, whose sum tools/sources.sh prints, and proved them first: every function of crates/blink_c
-and of the crates below it, by this toolchain. The gate proves all crates anew, and tries the tests, the programs and the wrong bodies. Above is
-its last line.
+and of the crates below it, by this toolchain. The gate proves all crates anew, and tries the tests, the programs and the wrong bodies. What it
+said last stands above, if it was run.
 
 docs/PROMISES.md has each call by its proved clauses, and docs/BELIEVE.md what has to be believed. Not proved, but tested, are the inline
 functions of blink.h, blink.hpp, the Rust crate and blink.py.
