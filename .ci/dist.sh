@@ -107,10 +107,11 @@ refuses "the library in out/ is of other sources: run ./libblink" sh one/tools/d
 cp "$top/crates.txt" one
 cp "$other/out/libblink.a" other.a
 printf 'more' >>one/out/libblink.a
-refuses "./libblink didn't build the library in out/: run it" sh one/tools/dist.sh
+refuses "./libblink didn't build the library in out/: run ./libblink" sh one/tools/dist.sh
 cp other.a one/out/libblink.a
+refuses "deb: out/ has no library" sh -c 'mv one/out/libblink.a a.a; sh one/tools/deb.sh; status=$?; mv a.a one/out/libblink.a; exit $status'
 mv one/out/built.txt built
-refuses "./libblink didn't build the library in out/: run it" sh one/tools/dist.sh
+refuses "./libblink didn't build the library in out/: run ./libblink" sh one/tools/dist.sh
 mv built one/out/built.txt
 sed -i 's/^#define BLINK_VERSION_PATCH .*/#define BLINK_VERSION_PATCH 9/' one/include/blink.h
 refuses "include/blink.h, by numbers: the version is .*, and include/blink.h has $version" sh one/tools/dist.sh

@@ -26,7 +26,7 @@ if [ -z "${SOURCE_DATE_EPOCH-}" ]; then
     SOURCE_DATE_EPOCH=$(git -C "$top" log -1 --format=%ct 2>/dev/null) || fail "SOURCE_DATE_EPOCH has to name a time, since this is no clone of the repository"
 fi
 export SOURCE_DATE_EPOCH
-[ -e "$top/out/libblink.a" ] && [ -e "$top/out/libblink.so.$version" ] || fail "out/ has no library of version $version: run ./libblink"
+sh "$top/tools/built.sh" deb
 arch=$(dpkg --print-architecture)
 [ "$arch" = amd64 ] || fail "the library is for amd64, and this is $arch"
 lib=usr/lib/x86_64-linux-gnu

@@ -13,7 +13,6 @@ top=$(cd "$(dirname "$0")/.." && pwd)
 version=$(sh "$top/include/version.sh")
 name=blink-$version-linux-x86_64
 folder=$top/out/dist
-cc=${CC:-cc}
 
 fail() {
     echo "dist: $*" >&2
@@ -27,33 +26,24 @@ if [ -z "${SOURCE_DATE_EPOCH-}" ]; then
 fi
 export SOURCE_DATE_EPOCH
 
-# The library is what ./libblink built, which proved it, and of these sources.
+sh "$top/tools/built.sh" dist
 built=$top/out/built.txt
 shared=$top/out/libblink.so.$version
-[ -e "$top/out/libblink.a" ] && [ -e "$shared" ] || fail "out/ has no library of version $version: run ./libblink"
-(cd "$top/out" && sed '1,2d' "$built" | sha256sum --check --status --strict) 2>/dev/null || fail "./libblink didn't build the library in out/: run it"
-[ "$(sed -n 's/^sources: //p' "$built")" = "$(sh "$top/tools/sources.sh")" ] || fail "the library in out/ is of other sources: run ./libblink"
 mkdir -p "$folder"
 work=$(mktemp -d "$folder/.new.XXXXXX")
 trap 'rm -rf "$work"' EXIT
 trap 'exit 130' HUP INT TERM
-printf '#include <blink.h>\n#include <stdio.h>\nint main(void) { return puts(blink_version()) < 0; }\n' >"$work/version.c"
-for it in "$top/out/libblink.a" "$shared"; do
-    "$cc" -I "$top/include" "$work/version.c" "$it" -o "$work/version"
-    theirs=$(LD_LIBRARY_PATH=$top/out "$work/version")
-    [ "$theirs" = "$version" ] || fail "$it has version $theirs, and the sources $version: run ./libblink"
-done
-
 stage=$work/$name
 mkdir "$stage"
 sh "$top/include/install.sh" "" "$stage" >"$work/told" 2>&1 || { cat "$work/told" >&2; fail "it could not be installed"; }
 
-# The files of a folder: those that git knows, or without it all but what a build leaves.
+# The files of folders: those that git knows, or without it those of sources.
 files() {
     if [ -n "$commit" ]; then
         git -C "$top" ls-files -- "$@"
     else
-        (cd "$top" && find "$@" \( -name target -o -name out -o -name __pycache__ \) -prune -o -type f -print)
+        (cd "$top" && find "$@" \( -name target -o -name out -o -name __pycache__ \) -prune -o -type f \
+            \( -name '*.[ch]' -o -name '*.cpp' -o -name '*.py' -o -name '*.rs' -o -name '*.toml' -o -name Makefile -o -name .gitignore \) -print)
     fi
 }
 copy() {
