@@ -23,8 +23,8 @@ Changes. `insert` changes nothing where the key is there, `replace` nothing wher
 Walks. An iterator reads a part of the entries at a time, up to 1,024. So a loop may change what it walks, and sees of the rest what is there
 when it is read. Beside writers a forward walk of a session may have gaps: read what only grows at its end backwards, or by a `snapshot`.
 
-Cost. `len` of an index and of a reader is kept. That of a session counts by a walk over all entries, and so does `count`. `bool` of any of
-them reads one entry.
+Cost. `len` of an index and of a reader is kept. That of a session counts by a walk over all entries, and so does `count`. Python asks for it in
+`list(session)`, which walks twice so; `session.scan()` walks once. `bool` of any of them reads one entry.
 
 Errors. A number outside 0 .. 2**64 - 1 raises OverflowError, and what is no integer TypeError, before anything is called. A refusal by the
 library raises `Error`. What is closed raises ValueError, also in an iterator that was begun before. A change of a map ends before its call
