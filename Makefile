@@ -1,7 +1,8 @@
 # The doors of this folder by the names that C and Rust users look for. Each goal calls what README.md names.
 PREFIX ?= /usr/local
+LIBDIR ?= lib
 
-.PHONY: lib blink show test install uninstall gate
+.PHONY: lib blink show test install uninstall dist deb gate
 
 # The library: out/libblink.a, out/libblink.so and out/blink.pc. It is proved first.
 lib:
@@ -19,13 +20,22 @@ test:
 	./libblink --test
 	cargo test --quiet --manifest-path rust/blink/Cargo.toml
 
-# The headers, both libraries, blink.pc and blink.py into PREFIX, below DESTDIR where that is set: all of them, or nothing.
+# The headers, both libraries, blink.pc and blink.py into PREFIX, below DESTDIR where that is set: all of them, or nothing. LIBDIR is where in
+# PREFIX the libraries stand.
 install: lib
-	sh include/install.sh "$(DESTDIR)" "$(PREFIX)"
+	sh include/install.sh "$(DESTDIR)" "$(PREFIX)" "$(LIBDIR)"
 
 # Takes them away again.
 uninstall:
-	sh include/install.sh --uninstall "$(DESTDIR)" "$(PREFIX)"
+	sh include/install.sh --uninstall "$(DESTDIR)" "$(PREFIX)" "$(LIBDIR)"
+
+# A release, out/dist/blink-VERSION-linux-x86_64.tar.gz, for who has no toolchain.
+dist: lib
+	sh tools/dist.sh
+
+# The same as Debian packages in out/deb: libblink0, libblink-dev and python3-blink.
+deb: lib
+	sh tools/deb.sh
 
 # Every proof, edit, test and program.
 gate:

@@ -61,6 +61,14 @@ fi
 if command -v python3 >/dev/null 2>&1; then
     ends_with 'all calls are as expected' env BLINK_LIB_DIR="$work/installed/lib" PYTHONDONTWRITEBYTECODE=1 \
         python3 "$top/examples/python/all_calls.py" "$work/installed/include"
+    ends_with '10 words, the longest of 4' env BLINK_LIB_DIR="$work/installed/lib" PYTHONDONTWRITEBYTECODE=1 \
+        python3 "$top/examples/python/lengths.py" "$work/text"
+    ends_well env BLINK_LIB_DIR="$work/installed/lib" python3 "$top/.ci/stub.py"
+    if command -v mypy >/dev/null 2>&1; then
+        ends_well env MYPYPATH="$top/python" mypy --strict --cache-dir "$work/mypy" "$top/python/blink.pyi" "$top/examples/python/lengths.py"
+    else
+        echo "$0: no mypy, so python/blink.pyi was compared with the module alone" >&2
+    fi
 else
     echo "$0: no Python, so python/blink.py wasn't tried" >&2
 fi

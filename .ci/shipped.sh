@@ -28,11 +28,7 @@ is() {
 
 # Names: only those of the header, and one version everywhere.
 quietly sh "$top/crates/blink_c/link/compare.sh" "$top/out/libblink.a" "$top/out/libblink.so"
-version=$(sed -n 's/^#define BLINK_VERSION "\(.*\)"$/\1/p' "$top/include/blink.h")
-is "rust/blink's version" "$(sed -n 's/^version = "\(.*\)"$/\1/p' "$top/rust/blink/Cargo.toml")" "$version"
-is "the header's numbers" "$(sed -n 's/^#define BLINK_VERSION_[A-Z]* //p' "$top/include/blink.h" | paste -sd.)" "$version"
-is "blink.hpp's version" "$(sed -n 's/^#if BLINK_VERSION_MAJOR != //p' "$top/include/blink.hpp")" "${version%%.*}"
-is "blink.py's version" "$(sed -n 's/^_VERSION = "\(.*\)"$/\1/p' "$top/python/blink.py")" "$version"
+version=$(sh "$top/include/version.sh")
 is libblink.so.0 "$(readlink "$top/out/libblink.so.0")" "libblink.so.$version"
 is libblink.so "$(readlink "$top/out/libblink.so")" libblink.so.0
 if command -v readelf >/dev/null 2>&1; then
@@ -66,6 +62,9 @@ for it in refused folder; do
 done
 quietly sh "$top/include/install.sh" "" prefix/blink
 is "a second install" "$(listing prefix/blink)" "$(cat before)"
+quietly sh "$top/include/install.sh" "" prefix/multi lib/x86_64-linux-gnu
+is "the libraries' folder" "$(listing prefix/multi/lib/x86_64-linux-gnu)" "$(listing prefix/blink/lib)"
+! sh "$top/include/install.sh" "" prefix/multi ../lib >told 2>&1 || wrong "a LIBDIR above the prefix isn't refused"
 
 # A program that starts: it tells the version that it runs with.
 cat >program.c <<'C'
@@ -88,7 +87,7 @@ starts() {
 }
 if command -v pkg-config >/dev/null 2>&1; then
     mv staged/opt/blink moved
-    for it in "$top/out" "$work/prefix/blink/lib/pkgconfig" "$work/moved/lib/pkgconfig"; do
+    for it in "$top/out" "$work/prefix/blink/lib/pkgconfig" "$work/moved/lib/pkgconfig" "$work/prefix/multi/lib/x86_64-linux-gnu/pkgconfig"; do
         export PKG_CONFIG_PATH="$it"
         is "the version of $it" "$(pkg-config --modversion blink)" "$version"
         # shellcheck disable=SC2046
@@ -131,7 +130,16 @@ CMAKE
     [ -d moved ] || mv staged/opt/blink moved
     quietly env PKG_CONFIG_PATH="$work/moved/lib/pkgconfig" cmake -S cmake -B built -DCMAKE_PREFIX_PATH="$work/moved" -DCMAKE_C_COMPILER="$cc"
     quietly cmake --build built
-    for it in built/by_*; do
+    quietly env PKG_CONFIG_PATH="$work/moved/lib/pkgconfig" cmake -S cmake -B multi -DCMAKE_PREFIX_PATH="$work/prefix/multi" -DCMAKE_C_COMPILER="$cc" \
+        -DCMAKE_LIBRARY_ARCHITECTURE=x86_64-linux-gnu
+    quietly cmake --build multi
+    printf 'set(CMAKE_SYSTEM_NAME Linux)\nset(CMAKE_SYSTEM_PROCESSOR aarch64)\n' >other.cmake
+    if cmake -S cmake -B other_processor -DCMAKE_PREFIX_PATH="$work/moved" -DCMAKE_C_COMPILER="$cc" -DCMAKE_TOOLCHAIN_FILE="$work/other.cmake" >told 2>&1 ||
+        ! grep -q "libblink is for Linux on x86-64, and this is aarch64" told; then
+        cat told >&2
+        wrong "CMake finds the library for another processor"
+    fi
+    for it in built/by_* multi/by_*; do
         [ ! -x "$it" ] || [ -d "$it" ] || is "$it" "$("./$it" 2>&1)" "$version"
     done
 else
@@ -148,6 +156,11 @@ if command -v cargo >/dev/null 2>&1; then
         cat told >&2
         wrong "the crate takes a library of another major version"
     fi
+    if BLINK_LIB_DIR=$top/out CARGO_TARGET_DIR=$work/target cargo check --offline --target aarch64-unknown-linux-gnu \
+        --manifest-path "$top/rust/blink/Cargo.toml" >told 2>&1 || ! grep -q "the library is for Linux on x86-64, and the target is linux on aarch64" told; then
+        cat told >&2
+        wrong "the crate takes a target that the library isn't for"
+    fi
 fi
 if command -v python3 >/dev/null 2>&1; then
     mkdir later
@@ -158,6 +171,14 @@ if command -v python3 >/dev/null 2>&1; then
         cat told >&2
         wrong "blink.py takes a library of another major version"
     fi
+    mkdir lacking
+    echo "const char *blink_version(void) { return \"$version\"; }" >lacking.c
+    quietly "$cc" -shared -fPIC lacking.c -o lacking/libblink.so.0
+    if BLINK_LIB_DIR=$work/lacking PYTHONPATH=$top/python PYTHONDONTWRITEBYTECODE=1 python3 -c 'import blink' >told 2>&1 ||
+        ! grep -q "^ImportError: .* lacks blink_.*: take it and blink.py from one release" told; then
+        cat told >&2
+        wrong "blink.py takes a library that lacks functions"
+    fi
 fi
 
 # An installed blink.py takes the library beside it, or that of the folder which BLINK_LIB_DIR names, and no other.
@@ -166,6 +187,8 @@ loads() {
 }
 if command -v python3 >/dev/null 2>&1; then
     is "blink.py's library" "$(unset BLINK_LIB_DIR; loads)" "$(cd prefix/blink/lib && pwd -P)/libblink.so.0"
+    is "the library in LIBDIR" "$(unset BLINK_LIB_DIR; PYTHONPATH=prefix/multi/share/blink PYTHONDONTWRITEBYTECODE=1 python3 -c 'import blink; print(blink._library._name)' 2>&1)" \
+        "$(cd prefix/multi/lib/x86_64-linux-gnu && pwd -P)/libblink.so.0"
     is "the library that is named" "$(BLINK_LIB_DIR=$top/out loads)" "$top/out/libblink.so.0"
     if BLINK_LIB_DIR=$work/none loads >told || ! grep -q "^ImportError: .*BLINK_LIB_DIR names the folder $work/none " told; then
         cat told >&2
@@ -182,4 +205,8 @@ is "what an uninstall leaves of others" "$(listing prefix/blink)" "$(printf '.\n
 quietly sh "$top/include/install.sh" "" prefix/blink
 rm prefix/blink/share/other
 quietly sh "$top/include/install.sh" --uninstall "" prefix/blink
+quietly sh "$top/include/install.sh" --uninstall "" prefix/multi lib/x86_64-linux-gnu
 is "what an uninstall leaves" "$(listing prefix)" .
+
+# The same as a release, and as Debian packages.
+sh "$top/.ci/dist.sh"

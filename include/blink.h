@@ -11,6 +11,8 @@
  * at_least and at_most, which give one entry; pop_first and pop_last; len and count. A call of a session waits where it has to. A thread that
  * mustn't wait takes the call whose name has _try at its end, which takes `tries`: blink_bindings.h.
  *
+ * Processor. Both are for Linux on x86-64-v2, which has popcnt and SSE 4.2. A processor without these ends the program by SIGILL.
+ *
  * Handles. blink_index, blink_reader, blink_map and blink_session are handles. A handle begins as {NULL}, and is then empty. A function
  * with a parameter `out` takes the place of an empty handle, and fills it if it returns BLINK_DONE. All other functions take a full one. A
  * handle is freed once, by its free function. A close of a map leaves the handle, which blink_map_free frees. blink_index_share and blink_reader_unshare, if they return BLINK_DONE, leave the handle empty that they

@@ -1,11 +1,13 @@
 #!/bin/sh
 # Installs what ./libblink has built in a folder: the headers into include; the archive, and the shared library with its two links, into lib,
 # and the archive's name alone into lib/blink-static; blink.pc into lib/pkgconfig; what CMake's find_package(blink) reads into lib/cmake/blink;
-# and python/blink.py into share/blink. No file names the prefix, so the folder may be moved. Each file is copied beside its place first, and all take their places in
-# the end. So where one can't be written, none is changed, and no new folder is left.
+# and python/blink.py with its types into share/blink. No file names the prefix, so the folder may be moved. Each file is copied beside its
+# place first, and all take their places in the end. So where one can't be written, none is changed, and no new folder is left. `make dist`
+# and `make deb` take their files from here too.
 #
-#     install.sh DESTDIR PREFIX              PREFIX is where programs find them, and DESTDIR, which may be empty, stands before it
-#     install.sh --uninstall DESTDIR PREFIX  takes these files away, and their folders and PREFIX where nothing else is in them
+#     install.sh DESTDIR PREFIX [LIBDIR]              PREFIX is where programs find them, and DESTDIR, which may be empty, stands before it;
+#                                                     LIBDIR is another name for lib, as lib64 or lib/x86_64-linux-gnu
+#     install.sh --uninstall DESTDIR PREFIX [LIBDIR]  takes these files away, and their folders and PREFIX where nothing else is in them
 set -eu
 top=$(cd "$(dirname "$0")/.." && pwd)
 uninstall=
@@ -15,8 +17,18 @@ if [ "$1" = --uninstall ]; then
 fi
 prefix=$(realpath -ms -- "$2")
 root=$1$prefix
-version=$(sed -n 's/^#define BLINK_VERSION "\(.*\)"$/\1/p' "$top/include/blink.h")
+lib=${3:-lib}
+case /$lib/ in
+*//* | */../* | */./* | *[!A-Za-z0-9/._-]*)
+    echo "install: LIBDIR is a path below the prefix, of letters, digits and ._-, and is '$lib'" >&2
+    exit 1
+    ;;
+esac
+# From lib back to the prefix.
+up=$(echo "$lib" | sed 's|[^/][^/]*|..|g')
+version=$(sh "$top/include/version.sh")
 headers="blink.h blink_bindings.h blink.hpp blink_tsan.h"
+modules="blink.py blink.pyi"
 shared=libblink.so.$version
 soname=libblink.so.${version%%.*}
 
@@ -26,10 +38,12 @@ if [ -n "$uninstall" ]; then
     done
     for it in libblink.a "$shared" "$soname" libblink.so blink-static/libblink.a pkgconfig/blink.pc cmake/blink/blinkConfig.cmake \
         cmake/blink/blinkConfigVersion.cmake; do
-        rm -f "$root/lib/$it"
+        rm -f "$root/$lib/$it"
     done
-    rm -f "$root/share/blink/blink.py"
-    for it in /lib/pkgconfig /lib/blink-static /lib/cmake/blink /lib/cmake /lib /include /share/blink /share ''; do
+    for it in $modules; do
+        rm -f "$root/share/blink/$it"
+    done
+    for it in "/$lib/pkgconfig" "/$lib/blink-static" "/$lib/cmake/blink" "/$lib/cmake" "/$lib" "/${lib%%/*}" /include /share/blink /share ''; do
         rmdir "$root$it" 2>/dev/null || true
     done
     exit 0
@@ -75,24 +89,26 @@ link() {
     ln -sfn "$1" "$root/$2.new"
 }
 
-for it in include lib lib/pkgconfig lib/blink-static lib/cmake/blink share/blink; do
+for it in include "$lib" "$lib/pkgconfig" "$lib/blink-static" "$lib/cmake/blink" share/blink; do
     folder "$root/$it"
 done
 for it in $headers; do
     place "$top/include/$it" "include/$it" 644
 done
-place "$top/out/libblink.a" lib/libblink.a 644
-place "$top/out/$shared" "lib/$shared" 755
-link "$shared" "lib/$soname"
-link "$soname" lib/libblink.so
-link ../libblink.a lib/blink-static/libblink.a
-sh "$top/include/pc.sh" '${pcfiledir}/../..' lib >"$work/pc"
-place "$work/pc" lib/pkgconfig/blink.pc 644
+place "$top/out/libblink.a" "$lib/libblink.a" 644
+place "$top/out/$shared" "$lib/$shared" 755
+link "$shared" "$lib/$soname"
+link "$soname" "$lib/libblink.so"
+link ../libblink.a "$lib/blink-static/libblink.a"
+sh "$top/include/pc.sh" "\${pcfiledir}/../$up" "$lib" >"$work/pc"
+place "$work/pc" "$lib/pkgconfig/blink.pc" 644
 for it in blinkConfig blinkConfigVersion; do
-    sed "s/@version@/$version/; s/@major@/${version%%.*}/" "$top/include/$it.cmake.in" >"$work/$it"
-    place "$work/$it" "lib/cmake/blink/$it.cmake" 644
+    sed "s/@version@/$version/; s/@major@/${version%%.*}/; s|@up@|$up|" "$top/include/$it.cmake.in" >"$work/$it"
+    place "$work/$it" "$lib/cmake/blink/$it.cmake" 644
 done
-place "$top/python/blink.py" share/blink/blink.py 644
+for it in $modules; do
+    place "$top/python/$it" "share/blink/$it" 644
+done
 for it in $placed; do
     mv -fT "$root/$it.new" "$root/$it"
 done
