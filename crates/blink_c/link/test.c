@@ -1122,17 +1122,20 @@ int main(int argc, char **argv) {
     refuses_at_a_map();
     holds_a_session();
     finds_what_is_near();
-    pops_by_threads();
     takes_each_place();
     refuses_under_way(true);
     refuses_under_way(false);
     refuses_the_other_half();
     outlives_its_map();
     shares_a_map();
-    if (argc == 1) joins_at_once();
+    // by what order a place, or a session that a renewal takes, is handed on, helgrind doesn't know
+    if (argc == 1) {
+        joins_at_once();
+        grows_by_threads();
+        pops_by_threads();
+    }
     opens_a_map_with_room(true);
     opens_a_map_with_room(false);
-    grows_by_threads();
     shares_an_index();
     needs_memory_for_a_map(true);
     needs_memory_for_a_map(false);
