@@ -8,5 +8,5 @@ cd "$(dirname "$0")/.."
     for it in crates/*/src crates/*/specs crates/*/proofs; do
         [ ! -d "$it" ] || find "$it" -type f
     done | sort
-    printf '%s\n' crates.txt include/blink.h include/version.c include/pause.c
+    printf '%s\n' crates.txt include/*.h include/version.c include/pause.c
 } | tr '\n' '\0' | xargs -0 sha256sum | sha256sum | cut -d' ' -f1
