@@ -1,6 +1,6 @@
 #!/bin/sh
 # Compares include/blink.h and blink_bindings.h with the exports of src/: their names, the number, order and widths of their parameters, what they return,
-# and the structs of numbers, and the numbers of kinds and codes, of blink_owners. It prints a line for each finding and exits 1, or
+# and the structs of numbers, and the numbers of kinds and codes, of blink_handles. It prints a line for each finding and exits 1, or
 # prints nothing and exits 0. The C compiler does the comparison: what the sources say is declared once more beside the header. Without
 # a compiler only the names are compared.
 #
@@ -84,37 +84,37 @@ code() { sed -n "s/^code_of[a-z_]* (*$2[ a-z)]* *= \([0-9]*\)$/\1/p" "$here/$1";
     echo '#include "blink.h"'
     cat "$work/prototypes"
     for it in GET:FIND REMOVE:DELETE INSERT REPLACE ABSENT FOUND INSERTED EXISTS REMOVED REPLACED; do
-        number "BLINK_${it%:*}" "$(constant ../blink_owners/src/raw.rt "${it#*:}")"
+        number "BLINK_${it%:*}" "$(constant ../blink_handles/src/raw.rt "${it#*:}")"
     done
-    number BLINK_DONE "$(constant ../blink_owners/src/refusal.rt DONE)"
+    number BLINK_DONE "$(constant ../blink_handles/src/refusal.rt DONE)"
     number BLINK_BATCH_LIMIT "$(constant ../blink_batch/src/batch.rt BATCH_LIMIT)"
     while read -r name file word; do
         number "BLINK_$name" "$(code "$file" "$word")"
     done <<'WORDS'
-TOO_MANY ../blink_owners/specs/Codes.antt TooMany
-WRONG_LENGTH ../blink_owners/specs/Codes.antt WrongLength
-UNKNOWN_OPERATION ../blink_owners/specs/Codes.antt UnknownOperation
-INDEX_TOO_LARGE ../blink_owners/specs/Codes.antt TooLarge
-BAD_FAN ../blink_owners/specs/Codes.antt BadFan
-NO_MEMORY ../blink_owners/specs/Codes.antt OutOfMemory
+TOO_MANY ../blink_handles/specs/Codes.antt TooMany
+WRONG_LENGTH ../blink_handles/specs/Codes.antt WrongLength
+UNKNOWN_OPERATION ../blink_handles/specs/Codes.antt UnknownOperation
+INDEX_TOO_LARGE ../blink_handles/specs/Codes.antt TooLarge
+BAD_FAN ../blink_handles/specs/Codes.antt BadFan
+NO_MEMORY ../blink_handles/specs/Codes.antt OutOfMemory
 NOT_ASCENDING ../blink_index/specs/Codes.antt SortedError.NotAscending
-SHARED ../blink_owners/specs/Codes.antt Shared
-NO_MEMORY ../blink_owners/specs/MapCodes.antt OutOfMemory
-MAP_TOO_LARGE ../blink_owners/specs/MapCodes.antt TooLarge
-BAD_SESSIONS ../blink_owners/specs/MapCodes.antt Sessions
-NO_SESSION ../blink_owners/specs/MapCodes.antt NoSession
-PENDING ../blink_owners/specs/MapCodes.antt UnderWay
-IDLE ../blink_owners/specs/MapCodes.antt Idle
-FULL ../blink_owners/specs/MapCodes.antt Full
-SESSION_MISSING ../blink_owners/specs/MapCodes.antt Missing
-MAP_CLOSED ../blink_owners/specs/MapCodes.antt Closed
-ROWS_BUSY ../blink_owners/specs/MapCodes.antt RowsBusy
-RENEWING ../blink_owners/specs/MapCodes.antt Busy
+SHARED ../blink_handles/specs/Codes.antt Shared
+NO_MEMORY ../blink_handles/specs/MapCodes.antt OutOfMemory
+MAP_TOO_LARGE ../blink_handles/specs/MapCodes.antt TooLarge
+BAD_SESSIONS ../blink_handles/specs/MapCodes.antt Sessions
+NO_SESSION ../blink_handles/specs/MapCodes.antt NoSession
+PENDING ../blink_handles/specs/MapCodes.antt UnderWay
+IDLE ../blink_handles/specs/MapCodes.antt Idle
+FULL ../blink_handles/specs/MapCodes.antt Full
+SESSION_MISSING ../blink_handles/specs/MapCodes.antt Missing
+MAP_CLOSED ../blink_handles/specs/MapCodes.antt Closed
+ROWS_BUSY ../blink_handles/specs/MapCodes.antt RowsBusy
+RENEWING ../blink_handles/specs/MapCodes.antt Busy
 WORDS
     # The structs of numbers, field by field.
     awk '/^pub struct (Raw|Entry)/ { name = $3; on = 1; print "struct " name " {"; next }
         on && /^}/ { on = 0; print "};" }
-        on { sub(/^ *pub /, ""); sub(/,$/, ""); split($0, f, ": "); print "uint" substr(f[2], 2) "_t " f[1] ";" }' "$here/../blink_owners/src/raw.rt" "$here/../blink_operation/src/entry.rt"
+        on { sub(/^ *pub /, ""); sub(/,$/, ""); split($0, f, ": "); print "uint" substr(f[2], 2) "_t " f[1] ";" }' "$here/../blink_handles/src/raw.rt" "$here/../blink_operation/src/entry.rt"
     for it in "RawEntry blink_entry key pointer" "Entry blink_entry key pointer" "RawScanned blink_scanned filled more next" "RawTaken blink_taken taken there" "RawStock blink_reserve pages unwritten free taken_out waiting" "RawOperation blink_operation kind key pointer" "RawAnswer blink_answer kind pointer"; do
         # shellcheck disable=SC2086
         set -- $it "" "$@"
