@@ -2,7 +2,7 @@
 PREFIX ?= /usr/local
 LIBDIR ?= lib
 
-.PHONY: lib blink show test install uninstall dist deb gate
+.PHONY: lib blink show test install uninstall dist deb bench gate
 
 # The library: out/libblink.a, out/libblink.so and out/blink.pc. It is proved first.
 lib:
@@ -36,6 +36,10 @@ dist: lib
 # The same as Debian packages in out/deb: libblink0, libblink-dev and python3-blink.
 deb: lib
 	sh tools/deb.sh
+
+# What index and map cost beside their peers, as tables; out/bench has all figures.
+bench: lib
+	sh bench/beside.sh
 
 # Every proof, edit, test and program.
 gate:

@@ -1,5 +1,5 @@
 #!/bin/sh
-# Measures the index and the table beside their peers: all workloads in one run. It needs cargo and out/libblink.a, which ./libblink builds;
+# Measures the index and the map beside their peers: all workloads in one run. It needs cargo and out/libblink.a, which ./libblink builds;
 # g++ with libtbb-dev and libcds-dev, and javac, for three of the peers, of which it names and leaves out what it can't build.
 #
 #     bench/beside.sh              prints the tables as Markdown; out/bench has them, all figures and the plot
