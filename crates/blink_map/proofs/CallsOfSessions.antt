@@ -1,12 +1,11 @@
 -- What a call of the current map's session tells of a session.
 use Rattle.std.proofs.Common.{◌≡◌, ℕ, zero, suc, ◌+◌, ◌<◌, inr, Bool, true, false, Option, Some, None, List, [], ◌∷◌, ◌++◌, length, length-append, refl, sym, ap, ◌∙◌, subst, append_assoc, append-nil, arith}
-use Rattle.std.specs.Prelude.{if◌then◌else◌, ◌==◌, ◌^◌, Result, Ok, Err, IfOk, OnErr, IfSome}
+use Rattle.std.specs.Prelude.{if◌then◌else◌, ◌==◌, ◌^◌, IfSome}
 use Rattle.blink_batch.specs.declared.Answer.{Answer}
 use Rattle.blink_batch.specs.declared.Op.{Op}
 use Rattle.blink_batch.specs.{FitsWords, answer_at, cell_after, key_of}
 use Rattle.blink_batch.specs.declared.Op.TheVariants.{Delete, DeleteExact, Exchange, Find, Insert, Replace}
-use Rattle.blink_generation.specs.declared.error.Full.{Full}
-use Rattle.blink_generation.specs.{AnswersInOrder, HasTried, IsAnswered, IsSameBesideRoom, IsSameMember, IsSessionOf, IsUnchangedBy, made_by, opening_of, place_of, seen_by}
+use Rattle.blink_generation.specs.{AnswersInOrder, HasTried, IsSameBesideRoom, IsSameMember, IsSessionOf, IsUnchangedBy, made_by, opening_of, place_of, seen_by}
 use mathlib.Core.List.{IsPrefix}
 use lib.ListN.{get_elem?}
 use Rattle.std.specs.Arc.{arc_value}
@@ -22,7 +21,7 @@ use Rattle.blink_generation.specs.declared.map.Session.{Session as MapSession}
 use Rattle.blink_map.specs.declared.slots.Current.{Current}
 use Rattle.blink_map.specs.declared.slots.Generation.{Generation}
 use Rattle.blink_map.specs.declared.slots.Known.{Known}
-use Rattle.blink_map.specs.Counts.{made_in, made_with}
+use Rattle.blink_map.specs.Counts.{made_with}
 use Rattle.blink_map.specs.Own.{IsIdle, KnowsAuthors, own_of}
 use Rattle.blink_map.specs.Rule.{Account, IsContinued, IsCurrentAt, IsGeneration, SlotSeat, known_of}
 use Rattle.blink_map.specs.Steps.{CanGive, Taken, front_of, has_given, past_of, while_some, with_known}
@@ -136,22 +135,6 @@ has_tried (Delete key) old new same = unchanged_but_room old new same
 has_tried (Replace key pointer) old new same = unchanged_but_room old new same
 has_tried (Exchange key expected pointer) old new same = unchanged_but_room old new same
 has_tried (DeleteExact key expected) old new same = unchanged_but_room old new same
-
-pub after_outcome : (map : Map) (op : Op) (old new : MapSession) (outcome : Result Answer Full) → IfOk outcome (IsAnswered map op old new) → OnErr outcome (IsUnchangedBy op old new) → IsAfter old new
-after_outcome map op old new (Ok answer) answered unchanged = record { saw = saw_answer (opening_of map) op old new answer answered.in_order; same_member = answered.same_member }
-after_outcome map op old new (Err full) answered unchanged = let tried = has_tried op old new unchanged in record { saw = tried.saw; same_member = tried.same_member }
-
-pub outcome_counted : (map : Map) (op : Op) (held : Current) (new : MapSession) (changes : ℕ) (outcome : Result Answer Full) → IfOk outcome (IsAnswered map op held.session new) → OnErr outcome (IsUnchangedBy op held.session new)
-    → (changes + 1 < 2 ^ 64 → changes ≡ held.changes + made_in outcome) → IsCounted held new changes
-outcome_counted map op held new changes (Ok answer) answered unchanged counted = in_order_counted (opening_of map) op held new answer changes answered.in_order counted
-outcome_counted map op held new changes (Err full) answered unchanged counted = still (has_tried op held.session new unchanged).made counted
-  where
-    still : made_by new ≡ made_by held.session → (changes + 1 < 2 ^ 64 → changes ≡ held.changes + 0) → IsCounted held new changes
-    still made none was few =
-        let now = none few in
-        let same = ap (λ (l : List Change). length l) made in
-        let before = was (omega (arith, few, now)) in
-        omega (arith, now, same, before)
 
 -- what a session of the map has seen of its own, and of others
 module _ (first : List Entry) (slots slot : ℕ) (g : Generation) (held : Current) (is : IsGeneration first slots g) (its : IsCurrentAt g slot held) where
