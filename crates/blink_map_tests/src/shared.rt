@@ -278,19 +278,39 @@ fn change_held<R: Wait>(
 {
     let mut session = session;
     for _ in rt.forever() {
-        let held = hold(rt, map, session);
-        let number = held.number();
-        match start(rt, map, held, op) {
-            (held, Some(answer)) => return (map.release(held), Ok(answer)),
-            (held, None) => session = map.release(held),
+        let (then, outcome) = change_once(rt, alloc, map, session, op);
+        if let Some(outcome) = outcome {
+            return (then, outcome);
         }
-        if let Err(refusal) = map.try_renew_by(alloc, &session, Some(number), LOOKS) {
-            if refusal != GrowError::Busy {
-                return (session, Err(refusal));
-            }
-        }
+        session = then;
     }
     unreachable!()
+}
+
+// `None`, if the map was full: it is renewed, or couldn't be for now.
+fn change_once<R: Wait>(
+    rt: &R,
+    alloc: Global,
+    map: &GrowingMap,
+    session: Session,
+    op: Op,
+) -> (Session, Option<Result<Answer, GrowError>>)
+    requires its_own { IsSessionOf map.now session }
+    requires updates { IsUpdate op }
+    requires fits { FitsWords op }
+    ensures { IsSessionOf map.now result.0 }
+{
+    let held = hold(rt, map, session);
+    let number = held.number();
+    let (held, answer) = start(rt, map, held, op);
+    let session = map.release(held);
+    if let Some(answer) = answer {
+        return (session, Some(Ok(answer)));
+    }
+    match map.try_renew_by(alloc, &session, Some(number), LOOKS) {
+        Ok(()) | Err(GrowError::Busy) => (session, None),
+        Err(refusal) => (session, Some(Err(refusal))),
+    }
 }
 
 // The held session's operation, to its end; no answer, if the map is full.
